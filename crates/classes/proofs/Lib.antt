@@ -1,0 +1,5 @@
+pub mod Counts
+pub mod Listings
+pub mod Exchanges
+pub mod Widths
+pub mod Yields
