@@ -1,0 +1,3 @@
+pub mod Pairwise
+pub mod PeresEven
+pub mod Filling

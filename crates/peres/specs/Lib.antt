@@ -1,0 +1,2 @@
+pub mod PeresRule
+pub mod Fills

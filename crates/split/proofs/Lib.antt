@@ -1,0 +1,3 @@
+pub mod Halving
+pub mod SplitEven
+pub mod Noding

@@ -1,0 +1,2 @@
+pub mod SplitRule
+pub mod Scratch
