@@ -1,0 +1,2 @@
+pub mod PilesEven
+pub mod Scratch
