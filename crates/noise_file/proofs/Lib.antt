@@ -1,0 +1,3 @@
+pub mod Files
+pub mod Firsts
+pub mod Readings

@@ -1,0 +1,9 @@
+pub mod Faults
+pub mod First
+pub mod Letters
+pub mod Reading
+pub mod Contents
+pub mod Rules
+pub mod Opened
+pub mod Entries
+pub mod Feeds
