@@ -29,8 +29,8 @@ refused() {
 
 refused 'let go' linear-value-let-go <<'RATTLE'
 //! A key is drawn, and its slip is let go.
+use crate::fault::WellFault;
 use crate::store::Well;
-use ledger::fault::WellFault;
 
 pub fn misuse(well: &mut Well, key: &mut [u8]) -> Result<u32, WellFault> {
     let slip = well.draw(key)?;
@@ -46,18 +46,6 @@ use crate::store::Well;
 
 pub fn misuse(well: &mut Well, slip: Slip) -> Result<(), Returned> {
     well.load(slip)?;
-    well.load(slip)
-}
-RATTLE
-
-refused 'voided and then loaded' borrow-e0382 <<'RATTLE'
-//! A slip is voided, and then loaded.
-use crate::slip::Returned;
-use crate::slip::Slip;
-use crate::store::Well;
-
-pub fn misuse(well: &mut Well, slip: Slip) -> Result<(), Returned> {
-    well.void(slip)?;
     well.load(slip)
 }
 RATTLE

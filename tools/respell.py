@@ -15,6 +15,8 @@ NAME = rf"[^{BREAK}]+"
 TOKEN = re.compile(NAME)
 DECLARED = re.compile(rf"^((?:(?:pub|abbrev|unfoldable)\s+)*)({NAME})(?:\s*\{{[^}}]*\}})?\s+:\s*(.*)$")
 SHAPE = re.compile(rf"^(?:pub\s+)?(?:record|data)\s+({NAME})")
+NESTED = re.compile(rf"^ +(?:(?:pub|abbrev|unfoldable)\s+)*({NAME}) :(?:\s|$)")
+CLAUSE = re.compile(r"\b(?:ensures|requires|ghost)\s+([a-z]\w*_\w*)\s*[:{=]")
 MEMBER = re.compile(rf"^\s+(?:pub\s+)?({NAME})\s+:\s")
 
 
@@ -58,6 +60,8 @@ def names_of(root):
         if path.suffix == ".rt":
             for line in path.read_text().split("\n"):
                 words.update(aliases(line))
+                # A clause's name once had a dash in a proof for each underscore.
+                words.update(name.replace("_", "-") for name in CLAUSE.findall(line))
         if path.suffix != ".antt":
             continue
         text = path.read_text()
@@ -84,6 +88,9 @@ def names_of(root):
                 member = MEMBER.match(line)
                 if member:
                     (types if member.group(1)[0].isupper() else words).add(member.group(1))
+            nested = NESTED.match(line)
+            if nested:
+                (types if nested.group(1)[0].isupper() else words).add(nested.group(1))
     return words - generated, types - generated
 
 

@@ -1,5 +1,5 @@
 -- Lanes, kept exits and their bits as the loops of the layer meet them. Assumes nothing.
-use Rattle.std.proofs.Common.{◌≡◌, ℕ, ◌+◌, ◌-◌, ◌*◌, ◌<◌, ◌≤◌, Bool, true, false, cond, eqb, List, [], ◌∷◌, ◌++◌, length, get_or, take, drop, None, sym, refl, ap, ◌∙◌, subst, mul-le-mul_left, mul-add, add-one, arith}
+use Rattle.std.proofs.Common.{◌≡◌, ℕ, ◌+◌, ◌-◌, ◌*◌, ◌<◌, ◌≤◌, Bool, true, false, cond, eqb, List, [], ◌∷◌, ◌++◌, length, get_or, take, drop, None, sym, refl, ap, ◌∙◌, subst, append_assoc, append-nil, mul-le-mul_left, mul-add, add-one, arith}
 use Rattle.std.proofs.lemmas.List.{take_all, drop_more, drop_all}
 use Rattle.std.proofs.lemmas.Bool.{eq-eqb, ne_eqb}
 use Rattle.classes.specs.Recordings.{Sized, Codes, Recording, width, final, last}
@@ -12,7 +12,7 @@ use Rattle.blum.specs.Totals.{total, total_zero, total_le, total_up}
 use Rattle.extractors.proofs.Gathers.{gather_next}
 use Rattle.blum.specs.Lanes.{led_if, lane_short, lanes_length}
 use Rattle.blum.specs.Keeps.{part, part_short, init_take}
-use Rattle.blum.specs.BlumEven.{kept_recording, blum-none}
+use Rattle.blum.specs.BlumEven.{kept_recording, blum_none}
 
 -- THE LANE OF A STATE, FROM THE CODE AT i ON
 
@@ -24,15 +24,22 @@ module _ (x : List ℕ) (s i : ℕ) where
       ∙ ap (λ t. led_if t (get_or x (i + 1) 0) (lane_from s (get_or x (i + 1) 0) (drop (i + 1 + 1) x))) (eq-eqb (get_or x i 0) s e)
       ∙ ap (λ z. get_or x (i + 1) 0 ∷ lane s z) (sym (drop_more x (i + 1) 0 h))
 
-  other-state : (a : ℕ) (r : List ℕ) → (a ≡ s → ⊥) → lane_from s a r ≡ lane s r
-  other-state a [] e = refl
-  other-state a (b ∷ r) e = ap (λ t. led_if t b (lane_from s b r)) (ne_eqb a s e)
+  other_state : (a : ℕ) (r : List ℕ) → (a ≡ s → ⊥) → lane_from s a r ≡ lane s r
+  other_state a [] e = refl
+  other_state a (b ∷ r) e = ap (λ t. led_if t b (lane_from s b r)) (ne_eqb a s e)
 
   pub pass : i < length x → (get_or x i 0 ≡ s → ⊥) → lane s (drop i x) ≡ lane s (drop (i + 1) x)
-  pass h e = ap (lane s) (drop_more x i 0 h) ∙ other-state (get_or x i 0) (drop (i + 1) x) e
+  pass h e = ap (lane s) (drop_more x i 0 h) ∙ other_state (get_or x i 0) (drop (i + 1) x) e
 
   pub at_end : i < length x → length x ≤ i + 1 → lane s (drop i x) ≡ lane s (drop (i + 1) x)
   at_end h e = ap (lane s) (drop_more x i 0 h) ∙ ap (lane_from s (get_or x i 0)) (drop_all (i + 1) x e) ∙ sym (ap (lane s) (drop_all (i + 1) x e))
+
+-- a list that grows by what one turn takes from the rest
+pub list_more : {X : Type 0} (all done rest rest' : List X) (y : X) → all ≡ done ++ rest → rest ≡ y ∷ rest' → (done' : List X) → done' ≡ done ++ (y ∷ []) → all ≡ done' ++ rest'
+list_more all done rest rest' y e r done' d = e ∙ ap (λ z. done ++ z) r ∙ sym (append_assoc done (y ∷ []) rest') ∙ ap (λ z. z ++ rest') (sym d)
+
+pub list_all : {X : Type 0} (all done rest : List X) → all ≡ done ++ rest → rest ≡ [] → done ≡ all
+list_all all done rest e r = sym (e ∙ ap (λ z. done ++ z) r ∙ append-nil done)
 
 -- THE KEPT EXITS
 
@@ -69,9 +76,9 @@ lanes_fit m [] h = omega (arith, total_zero m)
 lanes_fit m (a ∷ y) h = omega (arith, lanes_length m a y h.0 h.1)
 
 module _ (m : ℕ) (x : List ℕ) (s : ℕ) (hx : Codes m x) (hs : s < m) where
-  exits-fit : exits_below s x + length (kept s x) ≤ length x
+  exits_fit : exits_below s x + length (kept s x) ≤ length x
   unfolding exits_below
-  exits-fit =
+  exits_fit =
       omega (
         arith,
         total_up s m (λ t. length (kept t x)) hs,
@@ -82,7 +89,7 @@ module _ (m : ℕ) (x : List ℕ) (s : ℕ) (hx : Codes m x) (hs : s < m) where
   -- room for one state more
   pub room_next : (w W at n : ℕ) → w ≡ W → at ≤ W * exits_below s x → n ≡ length (kept s x) → at + w * n ≤ W * length x
   room_next w W at n v h e =
-      let few : exits_below s x + n ≤ length x = omega (arith, exits-fit) in
+      let few : exits_below s x + n ≤ length x = omega (arith, exits_fit) in
       let most : at + W * n ≤ W * length x = omega (arith, mul-add W (exits_below s x) n, mul-le-mul_left W few) in
       subst (λ z. at + z * n ≤ W * length x) (sym v) most
 
@@ -103,7 +110,7 @@ exits_due m x exits s k sized rec e room = unrefused m exits k sized (subst (Rec
 
 -- no codes give no bits
 pub none_written : (m : ℕ) (f : List ℕ → List Bool) (x scratch : List ℕ) → Sized m → Even m f → length x ≡ 0 → Written (blum m f x) scratch 0 scratch
-none_written m f [] scratch sized even h = subst (λ s. Written s scratch 0 scratch) (sym (blum-none m f sized even)) (refl, refl)
+none_written m f [] scratch sized even h = subst (λ s. Written s scratch 0 scratch) (sym (blum_none m f sized even)) (refl, refl)
 none_written m f (a ∷ y) scratch sized even h = absurd (omega arith)
 
 abbrev pub SoFar : ℕ → (List ℕ → List Bool) → List ℕ → ℕ → List ℕ → ℕ → List ℕ → Type 0

@@ -4,7 +4,7 @@ use Rattle.std.proofs.Common.{sym, ap, ap₂, subst, ◌∙◌, arith}
 use Rattle.std.proofs.lemmas.Bool.{eqb-true, eq-eqb}
 use Rattle.classes.specs.Counting.{one_if}
 use Rattle.classes.specs.Recordings.{Codes, count, final, steps_from}
-use Rattle.classes.proofs.Counts.{add-up-append}
+use Rattle.classes.proofs.Counts.{add_up_append}
 use Rattle.extractors.specs.Lanes.{lane_from}
 use Rattle.blum.specs.Totals.{total, total_zero, total_same, total_add, total_one}
 
@@ -27,7 +27,7 @@ codes_led_if m true b l h k = (h, k)
 codes_led_if m false b l h k = k
 
 pub count_append : (c : ℕ) (k l : List ℕ) → count c (k ++ l) ≡ count c k + count c l
-count_append c k l = add-up-append (λ b. one_if (b == c)) k l
+count_append c k l = add_up_append (λ b. one_if (b == c)) k l
 
 -- a list of codes is as long as its counts add up to
 pub length_by_counts : (m : ℕ) (l : List ℕ) → Codes m l → total m (λ c. count c l) ≡ length l

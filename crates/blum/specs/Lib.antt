@@ -1,4 +1,5 @@
 pub mod PilesEven
+pub mod Scratch
 pub mod PileTheorems
 pub mod BlumEven
 pub mod Totals

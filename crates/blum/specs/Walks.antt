@@ -120,7 +120,7 @@ by_last_exits : (P : ℕ → Type 0) (a : ℕ) (y : List ℕ) → P (final a y)
     → P a × ((s : ℕ) → 0 < length (lane_from s a y) → P s)
 by_last_exits P a [] end more = (end, λ s h. absurd (omega arith))
 by_last_exits P a (b ∷ y) end more =
-    here-or-later (by_last_exits P b y end (λ s ne h p. more s ne (some_led_if (a == s) b (lane_from s b y) h) (subst P (sym (final_led_if (a == s) b s (lane_from s b y) h)) p)))
+    here_or_later (by_last_exits P b y end (λ s ne h p. more s ne (some_led_if (a == s) b (lane_from s b y) h) (subst P (sym (final_led_if (a == s) b s (lane_from s b y) h)) p)))
   where
     at_a : P b → ((s : ℕ) → 0 < length (lane_from s b y) → P s) → P a
     at_a pb later = elim (cases_eq (final b y) a) [ inl e ↦ subst P e end | inr ne ↦ go ne (lane_from a b y) refl ]
@@ -135,8 +135,8 @@ by_last_exits P a (b ∷ y) end more =
     at pa later s true q h = subst P (eqb-true a s q) pa
     at pa later s false q h = later s h
 
-    here-or-later : P b × ((s : ℕ) → 0 < length (lane_from s b y) → P s) → P a × ((s : ℕ) → 0 < length (lane_from s a (b ∷ y)) → P s)
-    here-or-later ih = let pa = at_a ih.0 ih.1 in (pa, λ s h. at pa ih.1 s (a == s) refl h)
+    here_or_later : P b × ((s : ℕ) → 0 < length (lane_from s b y) → P s) → P a × ((s : ℕ) → 0 < length (lane_from s a (b ∷ y)) → P s)
+    here_or_later ih = let pa = at_a ih.0 ih.1 in (pa, λ s h. at pa ih.1 s (a == s) refl h)
 
 -- NOTHING IS LEFT
 
@@ -152,14 +152,14 @@ module _ (m a : ℕ) (y : List ℕ) (L : ℕ → List ℕ) (ha : a < m) (hy : Co
       sym (length_by_counts m (L s) (re.codes s)) ∙ total_same m (λ c. count c (L s)) (λ c. count c (lane_from s a y)) (re.counts s)
       ∙ length_by_counts m (lane_from s a y) (codes_lane m a y s hy)
 
-  same-held : held m L ≡ length y
+  same_held : held m L ≡ length y
   unfolding held
-  same-held = total_same m (λ t. length (L t)) (λ t. length (lane_from t a y)) same_length ∙ lanes_length m a y ha hy
+  same_held = total_same m (λ t. length (L t)) (λ t. length (lane_from t a y)) same_length ∙ lanes_length m a y ha hy
 
 module _ (m a : ℕ) (y z : List ℕ) (L : ℕ → List ℕ) (ha : a < m) (hy : Codes m y) (re : Rearranged m a y L) (w : Stopped m a L z) where
   -- what is left comes in as often as it goes out, but for the two ends
-  left-flow : (s : ℕ) → length (w.rest s) + one_if (final a y == s) ≡ total m (λ t. count s (w.rest t)) + one_if (final a z == s)
-  left-flow s =
+  left_flow : (s : ℕ) → length (w.rest s) + one_if (final a y == s) ≡ total m (λ t. count s (w.rest t)) + one_if (final a z == s)
+  left_flow s =
       omega (
         arith,
         flow a y s,
@@ -177,10 +177,10 @@ module _ (m a : ℕ) (y z : List ℕ) (L : ℕ → List ℕ) (ha : a < m) (hy : 
   same_end : final a z ≡ final a y
   same_end =
       let e = final a z in
-      sym (one_same (final a y) e (omega (arith, left-flow e, ap length w.spent, one_self e)))
+      sym (one_same (final a y) e (omega (arith, left_flow e, ap length w.spent, one_self e)))
 
-  left-even : (s : ℕ) → length (w.rest s) ≡ total m (λ t. count s (w.rest t))
-  left-even s = omega (arith, left-flow s, ap (λ e. one_if (e == s)) same_end)
+  left_even : (s : ℕ) → length (w.rest s) ≡ total m (λ t. count s (w.rest t))
+  left_even s = omega (arith, left_flow s, ap (λ e. one_if (e == s)) same_end)
 
   -- a state whose last exit leads to a spent lane is spent: else its last exit would still arrive there
   closed : (s : ℕ) → s < m → (final a y ≢ s) → w.rest (final s (lane_from s a y)) ≡ [] → w.rest s ≡ []
@@ -192,7 +192,7 @@ module _ (m a : ℕ) (y z : List ℕ) (L : ℕ → List ℕ) (ha : a < m) (hy : 
           let some : 0 < length (w.rest s) = omega (arith, ap length e) in
           let last : final s (w.rest s) ≡ final s (lane_from s a y) = sym (final_append s (lane_from s a z) (w.rest s) some) ∙ ap (final s) (sym (w.cut s)) ∙ re.lasts s ne in
           let c = final s (lane_from s a y) in
-          absurd (omega (arith, ap length none, left-even c, total_some m (λ t. count c (w.rest t)) s hs, subst (λ d. 0 < count d (w.rest s)) last (count_final s (w.rest s) some)))
+          absurd (omega (arith, ap length none, left_even c, total_some m (λ t. count c (w.rest t)) s hs, subst (λ d. 0 < count d (w.rest s)) last (count_final s (w.rest s) some)))
 
   nothing_left : (s : ℕ) → w.rest s ≡ []
   nothing_left s = at (lane_from s a y) refl
@@ -213,7 +213,7 @@ module _ (m a : ℕ) (y z : List ℕ) (L : ℕ → List ℕ) (ha : a < m) (hy : 
 -- THE WALK OVER REARRANGED LANES IS A RECORDING WITH THESE LANES AND THE SAME LAST CODE
 
 pub rewalk : (m a : ℕ) (y : List ℕ) (L : ℕ → List ℕ) → a < m → Codes m y → Rearranged m a y L → WalkedOver m a (final a y) L (walk (length y) a L)
-rewalk m a y L ha hy re = whole m a y (walk (length y) a L) L ha hy re (stops m (length y) a L ha re.codes (omega (arith, same-held m a y L ha hy re)))
+rewalk m a y L ha hy re = whole m a y (walk (length y) a L) L ha hy re (stops m (length y) a L ha re.codes (omega (arith, same_held m a y L ha hy re)))
 
 -- a walk over rearranged lanes is as long as the recording
 pub rewalk_length : (m a : ℕ) (y z : List ℕ) (L : ℕ → List ℕ) → a < m → Codes m y → Rearranged m a y L → WalkedOver m a (final a y) L z → length z ≡ length y

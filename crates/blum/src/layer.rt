@@ -1,11 +1,11 @@
 //! The Blum layer: the lanes of a recording go one by one to the extractor below.
 ghost use Rattle.std.specs.Prelude.{◌≡◌, ◌-◌, ◌*◌, ◌≤◌, length, if◌then◌else◌, nat_eq};
 ghost use Rattle.classes.specs.Recordings.{Recording, Sized, width as width_of_lem};
-ghost use Rattle.extractors.specs.Lanes.{blum, lane};
+ghost use Rattle.extractors.specs.Lanes.{blum};
 ghost use Rattle.extractors.specs.Piles.{bits};
 ghost use Rattle.extractors.specs.Piles.Pile.{laned};
+ghost use Rattle.blum.specs.Scratch.{Filed};
 ghost use Rattle.extractors.specs.Calls.{Filled};
-ghost use Rattle.extractors.specs.Rows.{Filed};
 ghost use Rattle.blum.specs.PileTheorems.{counts_even};
 
 use extractors::fault::ExtractorFault;
@@ -28,7 +28,7 @@ fn file_exits(size: u8, recording: &[u8], rows: &mut [u8]) -> [usize; MOST_STATE
     requires sized { Sized size }
     requires recorded { Recording size recording.now }
     requires room { size * length recording.now ≤ length rows.old }
-    ensures { Filed size lane recording.now result rows.new }
+    ensures { Filed size recording.now result rows.new }
 {
     let n = recording.len();
     let mut lengths = [0; MOST_STATES];

@@ -7,7 +7,7 @@ use Rattle.classes.specs.Recordings.{Recording}
 use Rattle.classes.specs.Classes.{Listing, CountLike, MarkovLike}
 use Rattle.classes.specs.Evenness.{EvenOver}
 use Rattle.classes.specs.Exchange.{Exchange, ExchangeIsEven}
-use Rattle.classes.proofs.Counts.{bits_true, bits_self, bits_eq, word_true, word_self, word_eq, add-up-same, add-up-zero, add_up_swap, length-kept, times_kept}
+use Rattle.classes.proofs.Counts.{bits_true, bits_self, bits_eq, word_true, word_self, word_eq, add_up_same, add_up_zero, add_up_swap, length_kept, times_kept}
 use Rattle.classes.proofs.Listings.{count_listing, markov_listing}
 
 -- FROM PARTNERS TO THE LAW: count the pairs of a member that gives s and its partner that gives t, by rows and by columns
@@ -28,10 +28,10 @@ module _ {m : ℕ} {Like : List ℕ → List ℕ → Type 0} {members : List ℕ
       at true q =
           let gives-s : f z ≡ s = bits_true (f z) s q in
           listing.each_once x (ex.put z t) hx (listing.joined x z (ex.put z t) k (ex.like z t (listing.recorded x z hx k) (sym h ∙ ap length (sym gives-s))))
-      at false q = add-up-zero (members x)
+      at false q = add_up_zero (members x)
 
-  pair-le : (s t : List Bool) → length s ≡ length t → (z w : List ℕ) → Like x z → pair s t z w ≤ pair t s w z
-  pair-le s t h z w k = at (given s z) refl (same_list eqb w (ex.put z t)) refl
+  pair_le : (s t : List Bool) → length s ≡ length t → (z w : List ℕ) → Like x z → pair s t z w ≤ pair t s w z
+  pair_le s t h z w k = at (given s z) refl (same_list eqb w (ex.put z t)) refl
     where
       at : (b : Bool) → given s z ≡ b → (c : Bool) → same_list eqb w (ex.put z t) ≡ c → cond b (cond c 1 0) 0 ≤ pair t s w z
       at true q true r =
@@ -49,11 +49,11 @@ module _ {m : ℕ} {Like : List ℕ → List ℕ → Type 0} {members : List ℕ
   law : (s t : List Bool) → length s ≡ length t → tally (given s) (members x) ≡ tally (given t) (members x)
   law s t h =
       let all = listing.none_else x hx in
-      add-up-same (Like x) (λ z. cond (given s z) 1 0) (λ z. add_up (pair s t z) (members x)) (λ z k. sym (row s t h z k)) (members x) all
-      ∙ add-up-same (Like x) (λ z. add_up (pair s t z) (members x)) (λ z. add_up (λ w. pair t s w z) (members x))
-      (λ z k. add-up-same (Like x) (pair s t z) (λ w. pair t s w z) (λ w l. omega (arith, pair-le s t h z w k, pair-le t s (sym h) w z l)) (members x) all) (members x) all
+      add_up_same (Like x) (λ z. cond (given s z) 1 0) (λ z. add_up (pair s t z) (members x)) (λ z k. sym (row s t h z k)) (members x) all
+      ∙ add_up_same (Like x) (λ z. add_up (pair s t z) (members x)) (λ z. add_up (λ w. pair t s w z) (members x))
+      (λ z k. add_up_same (Like x) (pair s t z) (λ w. pair t s w z) (λ w l. omega (arith, pair_le s t h z w k, pair_le t s (sym h) w z l)) (members x) all) (members x) all
       ∙ add_up_swap (λ z w. pair t s w z) (members x) (members x)
-      ∙ add-up-same (Like x) (λ w. add_up (pair t s w) (members x)) (λ w. cond (given t w) 1 0) (λ w k. row t s (sym h) w k) (members x) all
+      ∙ add_up_same (Like x) (λ w. add_up (pair t s w) (members x)) (λ w. cond (given t w) 1 0) (λ w k. row t s (sym h) w k) (members x) all
 
 pub exchange_even : {m : ℕ} {Like : List ℕ → List ℕ → Type 0} {members : List ℕ → List (List ℕ)} → Listing m Like members
     → {f : List ℕ → List Bool} → Exchange m Like f → EvenOver m members f
@@ -105,48 +105,48 @@ partner f ws x t = get_or (giving f t ws) (place x (giving f (f x) ws)) x
 
 module _ {m : ℕ} {Like : List ℕ → List ℕ → Type 0} {members : List ℕ → List (List ℕ)} (listing : Listing m Like members)
     (f : List ℕ → List Bool) (even : EvenOver m members f) (x : List ℕ) (t : List Bool) (hx : Recording m x) (fits : length t ≡ length (f x)) where
-  x-once : times x (giving f (f x) (members x)) ≡ 1
-  x-once = times_kept (λ z. same_bits (f z) (f x)) x (bits_self (f x)) (members x) ∙ listing.each_once x x hx (listing.itself x hx)
+  x_once : times x (giving f (f x) (members x)) ≡ 1
+  x_once = times_kept (λ z. same_bits (f z) (f x)) x (bits_self (f x)) (members x) ∙ listing.each_once x x hx (listing.itself x hx)
 
   here : place x (giving f (f x) (members x)) < length (giving f t (members x))
   here =
       omega (
         arith,
-        place_below x (giving f (f x) (members x)) (omega (arith, x-once)),
-        length-kept (λ z. same_bits (f z) (f x)) (members x),
-        length-kept (λ z. same_bits (f z) t) (members x),
+        place_below x (giving f (f x) (members x)) (omega (arith, x_once)),
+        length_kept (λ z. same_bits (f z) (f x)) (members x),
+        length_kept (λ z. same_bits (f z) t) (members x),
         even x hx t (f x) fits,
       )
 
-  partner-like : Like x (partner f (members x) x t)
-  partner-like =
+  partner_like : Like x (partner f (members x) x t)
+  partner_like =
       All-get_or (Like x) (giving f t (members x)) (place x (giving f (f x) (members x))) x here
       (all_kept_by (λ z. same_bits (f z) t) (Like x) (members x) (listing.none_else x hx))
 
-  partner-test : same_bits (f (partner f (members x) x t)) t ≡ true
-  partner-test =
+  partner_test : same_bits (f (partner f (members x) x t)) t ≡ true
+  partner_test =
       All-get_or (λ z. same_bits (f z) t ≡ true) (giving f t (members x)) (place x (giving f (f x) (members x))) x here
       (kept_by_passes (λ z. same_bits (f z) t) (members x))
 
-  partner-gives : f (partner f (members x) x t) ≡ t
-  partner-gives = bits_true (f (partner f (members x) x t)) t partner-test
+  partner_gives : f (partner f (members x) x t) ≡ t
+  partner_gives = bits_true (f (partner f (members x) x t)) t partner_test
 
-  partner-undone : partner f (members (partner f (members x) x t)) (partner f (members x) x t) (f x) ≡ x
-  partner-undone =
+  partner_undone : partner f (members (partner f (members x) x t)) (partner f (members x) x t) (f x) ≡ x
+  partner_undone =
       let z = partner f (members x) x t in
-      let z-once : times z (giving f t (members x)) ≡ 1 = times_kept (λ w. same_bits (f w) t) z partner-test (members x) ∙ listing.each_once x z hx partner-like in
+      let z-once : times z (giving f t (members x)) ≡ 1 = times_kept (λ w. same_bits (f w) t) z partner_test (members x) ∙ listing.each_once x z hx partner_like in
       let places : place z (giving f t (members x)) ≡ place x (giving f (f x) (members x)) = place_get_d (giving f t (members x)) (place x (giving f (f x) (members x))) x here z-once in
-      ap₂ (λ ws u. get_or (giving f (f x) ws) (place z (giving f u ws)) z) (listing.one_class x z hx partner-like) partner-gives
+      ap₂ (λ ws u. get_or (giving f (f x) ws) (place z (giving f u ws)) z) (listing.one_class x z hx partner_like) partner_gives
       ∙ ap (λ i. get_or (giving f (f x) (members x)) i z) places
-      ∙ get_d_place x (giving f (f x) (members x)) z (omega (arith, x-once))
+      ∙ get_d_place x (giving f (f x) (members x)) z (omega (arith, x_once))
 
 pub even_exchange : {m : ℕ} {Like : List ℕ → List ℕ → Type 0} {members : List ℕ → List (List ℕ)} → Listing m Like members
     → {f : List ℕ → List Bool} → EvenOver m members f → Exchange m Like f
 even_exchange {members = members} listing {f} even = record {
   put = λ x t. partner f (members x) x t;
-  like = λ x t h k. partner-like listing f even x t h k;
-  gives = λ x t h k. partner-gives listing f even x t h k;
-  undone = λ x t h k. partner-undone listing f even x t h k;
+  like = λ x t h k. partner_like listing f even x t h k;
+  gives = λ x t h k. partner_gives listing f even x t h k;
+  undone = λ x t h k. partner_undone listing f even x t h k;
 }
 
 pub exchange_is_even : ExchangeIsEven

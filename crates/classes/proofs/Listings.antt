@@ -8,7 +8,7 @@ use Rattle.std.proofs.lemmas.Bool.{cond-true, lt-ltb, cases_lt}
 use Rattle.classes.specs.Counting.{one_if, add_up, same_list, times}
 use Rattle.classes.specs.Recordings.{Codes, Recording, count, final, steps_from, first, last, steps}
 use Rattle.classes.specs.Classes.{led_below, words, CountLike, MarkovLike, agree, agree_rows, same_counts, same_chain, count_class, markov_class, Listing}
-use Rattle.classes.proofs.Counts.{add-up-append, add-up-map, add-up-zero, times_kept}
+use Rattle.classes.proofs.Counts.{add_up_append, add_up_map, add_up_zero, times_kept}
 
 -- WORDS
 
@@ -24,13 +24,13 @@ words_all m (suc n) = led_all m n (words m n) (words_all m n) m (omega arith)
 
 times_if : (z : List ℕ) (ws : List (List ℕ)) (e : Bool) → add_up (λ w. cond (e && same_list eqb w z) 1 0) ws ≡ cond e (times z ws) 0
 times_if z ws true = refl
-times_if z ws false = add-up-zero ws
+times_if z ws false = add_up_zero ws
 
 times_led : (m b : ℕ) (z : List ℕ) (ws : List (List ℕ)) → times (b ∷ z) (led_below m ws) ≡ cond (ltb b m) (times z ws) 0
 times_led zero b z ws = grind (arith, nat_tests)
 times_led (suc m) b z ws =
-    let here = add-up-map (λ w. cond (same_list eqb w (b ∷ z)) 1 0) (λ w. m ∷ w) ws ∙ times_if z ws (eqb m b) in
-    let all = add-up-append (λ w. cond (same_list eqb w (b ∷ z)) 1 0) (led_below m ws) (map (λ w. m ∷ w) ws) in
+    let here = add_up_map (λ w. cond (same_list eqb w (b ∷ z)) 1 0) (λ w. m ∷ w) ws ∙ times_if z ws (eqb m b) in
+    let all = add_up_append (λ w. cond (same_list eqb w (b ∷ z)) 1 0) (led_below m ws) (map (λ w. m ∷ w) ws) in
     all ∙ ap₂ ◌+◌ (times_led m b z ws) here ∙ joined (times z ws)
   where
     joined : (k : ℕ) → cond (ltb b m) k 0 + cond (eqb m b) k 0 ≡ cond (ltb b (suc m)) k 0
@@ -90,15 +90,15 @@ steps_everywhere m x z hx hz h s c = elim (cases_lt s m) [
 module _ (m : ℕ) (Like : List ℕ → List ℕ → Type 0) (x : List ℕ) (q : List ℕ → Bool)
     (passes : (z : List ℕ) → Codes m z → length z ≡ length x → q z ≡ true → Like x z)
     (passed : (z : List ℕ) → Like x z → Codes m z × (length z ≡ length x) × (q z ≡ true)) where
-  none-else-by : All (Like x) (filter q (words m (length x)))
-  none-else-by = joined (filter q (words m (length x))) (all_kept_by q (λ w. Codes m w × (length w ≡ length x)) (words m (length x)) (words_all m (length x))) (kept_by_passes q (words m (length x)))
+  none_else_by : All (Like x) (filter q (words m (length x)))
+  none_else_by = joined (filter q (words m (length x))) (all_kept_by q (λ w. Codes m w × (length w ≡ length x)) (words m (length x)) (words_all m (length x))) (kept_by_passes q (words m (length x)))
     where
       joined : (ws : List (List ℕ)) → All (λ w. Codes m w × (length w ≡ length x)) ws → All (λ w. q w ≡ true) ws → All (Like x) ws
       joined [] a b = tt
       joined (w ∷ ws) a b = (passes w a.0.0 a.0.1 b.0, joined ws a.1 b.1)
 
-  each-once-by : (z : List ℕ) → Like x z → times z (filter q (words m (length x))) ≡ 1
-  each-once-by z h =
+  each_once_by : (z : List ℕ) → Like x z → times z (filter q (words m (length x))) ≡ 1
+  each_once_by z h =
       let p = passed z h in
       times_kept q z p.2 (words m (length x)) ∙ ap (λ n. times z (words m n)) (sym p.1) ∙ words_once m z p.0
 
@@ -110,8 +110,8 @@ count_listing m = record {
   itself = λ x h. (h.0, refl, λ c. refl);
   joined = λ x z w h k. (k.0, k.1 ∙ h.1, λ c. k.2 c ∙ h.2 c);
   recorded = λ x z h k. recorded_by m x z h k.0 k.1;
-  none_else = λ x h. none-else-by m (CountLike m) x (same_counts m x) (passes x h.0) (passed x);
-  each_once = λ x z h k. each-once-by m (CountLike m) x (same_counts m x) (passes x h.0) (passed x) z k;
+  none_else = λ x h. none_else_by m (CountLike m) x (same_counts m x) (passes x h.0) (passed x);
+  each_once = λ x z h k. each_once_by m (CountLike m) x (same_counts m x) (passes x h.0) (passed x) z k;
   one_class = λ x z h k. ap₂ (λ (g : ℕ → ℕ) (n : ℕ). filter (λ w. agree m (λ c. count c w) g) (words m n)) (fun_ext k.2) k.1;
 }
   where
@@ -126,8 +126,8 @@ markov_listing m = record {
   itself = λ x h. (h.0, refl, refl, refl, λ s c. refl);
   joined = λ x z w h k. (k.0, k.1 ∙ h.1, k.2 ∙ h.2, k.3 ∙ h.3, λ s c. k.4 s c ∙ h.4 s c);
   recorded = λ x z h k. recorded_by m x z h k.0 k.1;
-  none_else = λ x h. none-else-by m (MarkovLike m) x (same_chain m x) (passes x h.0) (passed x);
-  each_once = λ x z h k. each-once-by m (MarkovLike m) x (same_chain m x) (passes x h.0) (passed x) z k;
+  none_else = λ x h. none_else_by m (MarkovLike m) x (same_chain m x) (passes x h.0) (passed x);
+  each_once = λ x z h k. each_once_by m (MarkovLike m) x (same_chain m x) (passes x h.0) (passed x) z k;
   one_class = one_class;
 }
   where

@@ -10,7 +10,7 @@ use Rattle.classes.specs.Counting.{one_if, add_up, tally, same_list, same_bits, 
 use Rattle.classes.specs.Recordings.{Recording, Sized, width}
 use Rattle.classes.specs.Classes.{led_below, words, same_counts, count_class}
 use Rattle.classes.specs.Evenness.{EvenOn, Even, YieldBound}
-use Rattle.classes.proofs.Counts.{word_true, bits_self, add-up-same, add-up-le, add-up-zero, add-up-one, add-up-append, add-up-map, add_up_swap, all_of, tally-le-length, length-kept}
+use Rattle.classes.proofs.Counts.{word_true, bits_self, add_up_same, add_up_le, add_up_zero, add_up_one, add_up_append, add_up_map, add_up_swap, all_of, tally_le_length, length_kept}
 use Rattle.classes.proofs.Listings.{count_listing}
 use Rattle.classes.proofs.Widths.{width_least}
 
@@ -43,28 +43,28 @@ strings_apart (a ∷ s) zero = omega arith
 strings_apart [] (suc k) =
     omega (
       arith,
-      add-up-append (λ t. one_if (same_bits [] t)) (map (λ t. false ∷ t) (strings k)) (map (λ t. true ∷ t) (strings k)),
-      add-up-map (λ t. one_if (same_bits [] t)) (λ t. false ∷ t) (strings k),
-      add-up-map (λ t. one_if (same_bits [] t)) (λ t. true ∷ t) (strings k),
-      add-up-zero (strings k),
+      add_up_append (λ t. one_if (same_bits [] t)) (map (λ t. false ∷ t) (strings k)) (map (λ t. true ∷ t) (strings k)),
+      add_up_map (λ t. one_if (same_bits [] t)) (λ t. false ∷ t) (strings k),
+      add_up_map (λ t. one_if (same_bits [] t)) (λ t. true ∷ t) (strings k),
+      add_up_zero (strings k),
     )
 strings_apart (true ∷ s) (suc k) =
     omega (
       arith,
       strings_apart s k,
-      add-up-append (λ t. one_if (same_bits (true ∷ s) t)) (map (λ t. false ∷ t) (strings k)) (map (λ t. true ∷ t) (strings k)),
-      add-up-map (λ t. one_if (same_bits (true ∷ s) t)) (λ t. false ∷ t) (strings k),
-      add-up-map (λ t. one_if (same_bits (true ∷ s) t)) (λ t. true ∷ t) (strings k),
-      add-up-zero (strings k),
+      add_up_append (λ t. one_if (same_bits (true ∷ s) t)) (map (λ t. false ∷ t) (strings k)) (map (λ t. true ∷ t) (strings k)),
+      add_up_map (λ t. one_if (same_bits (true ∷ s) t)) (λ t. false ∷ t) (strings k),
+      add_up_map (λ t. one_if (same_bits (true ∷ s) t)) (λ t. true ∷ t) (strings k),
+      add_up_zero (strings k),
     )
 strings_apart (false ∷ s) (suc k) =
     omega (
       arith,
       strings_apart s k,
-      add-up-append (λ t. one_if (same_bits (false ∷ s) t)) (map (λ t. false ∷ t) (strings k)) (map (λ t. true ∷ t) (strings k)),
-      add-up-map (λ t. one_if (same_bits (false ∷ s) t)) (λ t. false ∷ t) (strings k),
-      add-up-map (λ t. one_if (same_bits (false ∷ s) t)) (λ t. true ∷ t) (strings k),
-      add-up-zero (strings k),
+      add_up_append (λ t. one_if (same_bits (false ∷ s) t)) (map (λ t. false ∷ t) (strings k)) (map (λ t. true ∷ t) (strings k)),
+      add_up_map (λ t. one_if (same_bits (false ∷ s) t)) (λ t. false ∷ t) (strings k),
+      add_up_map (λ t. one_if (same_bits (false ∷ s) t)) (λ t. true ∷ t) (strings k),
+      add_up_zero (strings k),
     )
 
 -- a list of words on which f is even, with x among them, has at least a word for each string as long as f x
@@ -72,12 +72,12 @@ even_room : (f : List ℕ → List Bool) (class : List (List ℕ)) → EvenOn f 
 even_room f class even x once =
     let given : List Bool → ℕ = λ t. tally (λ z. same_bits (f z) t) class in
     let some : 1 ≤ given (f x) =
-    (let le : times x class ≤ given (f x) = add-up-le (λ z. Unit {0}) (λ z. one_if (same_list eqb z x)) (λ z. one_if (same_bits (f z) (f x))) (λ z u. at z (same_list eqb z x) refl) class (all_of (λ z. Unit {0}) (λ z. tt) class) in omega arith) in
+    (let le : times x class ≤ given (f x) = add_up_le (λ z. Unit {0}) (λ z. one_if (same_list eqb z x)) (λ z. one_if (same_bits (f z) (f x))) (λ z u. at z (same_list eqb z x) refl) class (all_of (λ z. Unit {0}) (λ z. tt) class) in omega arith) in
     let low : add_up (λ t. 1) (strings k) ≤ add_up given (strings k) =
-    add-up-le (λ t. length t ≡ k) (λ t. 1) given (λ t h. omega (arith, some, even t (f x) h)) (strings k) (strings_long k) in
+    add_up_le (λ t. length t ≡ k) (λ t. 1) given (λ t h. omega (arith, some, even t (f x) h)) (strings k) (strings_long k) in
     let high : add_up (λ z. add_up (λ t. one_if (same_bits (f z) t)) (strings k)) class ≤ add_up (λ z. 1) class =
-    add-up-le (λ z. Unit {0}) (λ z. tally (λ t. same_bits (f z) t) (strings k)) (λ z. 1) (λ z u. strings_apart (f z) k) class (all_of (λ z. Unit {0}) (λ z. tt) class) in
-    omega (arith, low, high, add_up_swap (λ t z. one_if (same_bits (f z) t)) (strings k) class, add-up-one (strings k), add-up-one class, length_strings k)
+    add_up_le (λ z. Unit {0}) (λ z. tally (λ t. same_bits (f z) t) (strings k)) (λ z. 1) (λ z u. strings_apart (f z) k) class (all_of (λ z. Unit {0}) (λ z. tt) class) in
+    omega (arith, low, high, add_up_swap (λ t z. one_if (same_bits (f z) t)) (strings k) class, add_up_one (strings k), add_up_one class, length_strings k)
   where
     k : ℕ
     k = length (f x)
@@ -108,6 +108,6 @@ pub yield_bound : YieldBound
 yield_bound m sized f even x hx =
     let n = length x in
     let room : 2 ^ length (f x) ≤ length (count_class m x) = even_room f (count_class m x) (even x hx) x ((count_listing m).each_once x x hx ((count_listing m).itself x hx)) in
-    let few : length (count_class m x) ≤ m ^ n = subst (λ k. length (count_class m x) ≤ k) (length_words m n) (subst (λ k. k ≤ length (words m n)) (sym (length-kept (same_counts m x) (words m n))) (tally-le-length (same_counts m x) (words m n))) in
+    let few : length (count_class m x) ≤ m ^ n = subst (λ k. length (count_class m x) ≤ k) (length_words m n) (subst (λ k. k ≤ length (words m n)) (sym (length_kept (same_counts m x) (words m n))) (tally_le_length (same_counts m x) (words m n))) in
     let wide : m ^ n ≤ 2 ^ (width m * n) = subst (λ k. m ^ n ≤ k) (power_of_power (width m) n) (pow-le-pow_left (width_least m sized).reaches n) in
     ⊎_elim (λ h. let over : 2 ^ (width m * n) < 2 ^ length (f x) = pow-lt h in absurd (omega arith)) (λ h. h) (cases_lt (width m * n) (length (f x)))

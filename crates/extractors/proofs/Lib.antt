@@ -2,4 +2,3 @@ pub mod Judging
 pub mod Writing
 pub mod Pairing
 pub mod Gathers
-pub mod Rows

@@ -15,11 +15,11 @@ two x i h =
     drop_more x i 0 a ∙ ap (λ r. get_or x i 0 ∷ r) (drop_more x (i + 1) 0 b ∙ ap (λ j. get_or x (i + 1) 0 ∷ drop j x) e)
 
 module _ (x : List ℕ) (i : ℕ) (h : i + 2 ≤ length x) where
-  pub pairs-same : get_or x i 0 ≡ get_or x (i + 1) 0 → pairs (drop i x) ≡ pairs (drop (i + 2) x)
-  pairs-same e = ap pairs (two x i h) ∙ cond-true _ _ _ (eq-eqb (get_or x i 0) (get_or x (i + 1) 0) e)
+  pub pairs_same : get_or x i 0 ≡ get_or x (i + 1) 0 → pairs (drop i x) ≡ pairs (drop (i + 2) x)
+  pairs_same e = ap pairs (two x i h) ∙ cond-true _ _ _ (eq-eqb (get_or x i 0) (get_or x (i + 1) 0) e)
 
-  pub pairs-other : (get_or x i 0 ≡ get_or x (i + 1) 0 → ⊥) → pairs (drop i x) ≡ ltb (get_or x (i + 1) 0) (get_or x i 0) ∷ pairs (drop (i + 2) x)
-  pairs-other e = ap pairs (two x i h) ∙ cond-false _ _ _ (ne_eqb (get_or x i 0) (get_or x (i + 1) 0) e)
+  pub pairs_other : (get_or x i 0 ≡ get_or x (i + 1) 0 → ⊥) → pairs (drop i x) ≡ ltb (get_or x (i + 1) 0) (get_or x i 0) ∷ pairs (drop (i + 2) x)
+  pairs_other e = ap pairs (two x i h) ∙ cond-false _ _ _ (ne_eqb (get_or x i 0) (get_or x (i + 1) 0) e)
 
 -- no pair is left
 pub no_pairs : (y : List ℕ) → length y < 2 → pairs y ≡ []
@@ -33,15 +33,15 @@ Writing x before i k out = (i ≤ length x) × (k ≤ i) × (bytes (pairs x) ≡
 
 module _ (x before : List ℕ) (i k : ℕ) (out : List ℕ) (h : i + 2 ≤ length x) (w : (i ≤ length x) × (k ≤ i) × (bytes (pairs x) ≡ take k out ++ bytes (pairs (drop i x))) × (drop k out ≡ drop k before)) where
   pub write_same : get_or x i 0 ≡ get_or x (i + 1) 0 → (i + 2 ≤ length x) × (k ≤ i + 2) × (bytes (pairs x) ≡ take k out ++ bytes (pairs (drop (i + 2) x))) × (drop k out ≡ drop k before)
-  write_same e = (h, omega arith, w.2 ∙ ap (λ s. take k out ++ bytes s) (pairs-same x i h e), w.3)
+  write_same e = (h, omega arith, w.2 ∙ ap (λ s. take k out ++ bytes s) (pairs_same x i h e), w.3)
 
-  pub write-other : (get_or x i 0 ≡ get_or x (i + 1) 0 → ⊥) → k < length out → (v : ℕ) → v ≡ byte (ltb (get_or x (i + 1) 0) (get_or x i 0)) → (i + 2 ≤ length x) × (k + 1 ≤ i + 2) × (bytes (pairs x) ≡ take (k + 1) (set out k v) ++ bytes (pairs (drop (i + 2) x))) × (drop (k + 1) (set out k v) ≡ drop (k + 1) before)
-  write-other e l v is =
+  pub write_other : (get_or x i 0 ≡ get_or x (i + 1) 0 → ⊥) → k < length out → (v : ℕ) → v ≡ byte (ltb (get_or x (i + 1) 0) (get_or x i 0)) → (i + 2 ≤ length x) × (k + 1 ≤ i + 2) × (bytes (pairs x) ≡ take (k + 1) (set out k v) ++ bytes (pairs (drop (i + 2) x))) × (drop (k + 1) (set out k v) ≡ drop (k + 1) before)
+  write_other e l v is =
       let rest = bytes (pairs (drop (i + 2) x)) in
       let lt : k < k + 1 = omega arith in (
         h,
         omega arith,
-        w.2 ∙ ap (λ s. take k out ++ bytes s) (pairs-other x i h e) ∙ ap (λ b. take k out ++ (b ∷ rest)) (sym is) ∙ sym (append_assoc (take k out) (v ∷ []) rest) ∙ ap (λ s. s ++ rest) (sym (take_more_set out k v l)),
+        w.2 ∙ ap (λ s. take k out ++ bytes s) (pairs_other x i h e) ∙ ap (λ b. take k out ++ (b ∷ rest)) (sym is) ∙ sym (append_assoc (take k out) (v ∷ []) rest) ∙ ap (λ s. s ++ rest) (sym (take_more_set out k v l)),
         drop-set-lt (k + 1) out k v lt ∙ sym (drop-drop 1 k out) ∙ ap (drop 1) w.3 ∙ drop-drop 1 k before,
       )
 

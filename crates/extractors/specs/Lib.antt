@@ -4,5 +4,4 @@ pub mod Lanes
 pub mod Piles
 pub mod Calls
 pub mod PairsRule
-pub mod Rows
 pub mod PairsEven

@@ -5,15 +5,15 @@
 --   EntryNumbered   an entry is that of a number: the file lists it, every letter is of its kind, and they are few
 --   Answered         the answer for an entry number
 use Rattle.std.specs.Prelude.{◌≡◌, ℕ, ◌-◌, ◌≤◌, List, length, Some, None, Ok, Err, Result}
-use Rattle.kinds.specs.declared.kind.Symbols.{Symbols}
-use Rattle.kinds.specs.declared.kind.Symbols.TheVariants as symbols
+use Rattle.noise_file.specs.declared.kind.Symbols.{Symbols}
+use Rattle.noise_file.specs.declared.kind.Symbols.TheVariants as symbols
 use Rattle.noise_file.specs.declared.entry.Body.{Body}
 use Rattle.noise_file.specs.declared.entry.Entry.{Entry}
 use Rattle.noise_file.specs.declared.entry.Entry.TheVariants.{Coins, Faces, Labels}
-use Rattle.kinds.specs.declared.fault.FileFault.{FileFault}
-use Rattle.kinds.specs.declared.fault.FileFault.TheVariants.{Number}
-use Rattle.kinds.specs.Letters.{symbols_of, code_in}
-use Rattle.kinds.specs.Reading.{stray}
+use Rattle.noise_file.specs.declared.fault.FileFault.{FileFault}
+use Rattle.noise_file.specs.declared.fault.FileFault.TheVariants.{Number}
+use Rattle.noise_file.specs.Letters.{symbols_of, code_in}
+use Rattle.noise_file.specs.Reading.{stray}
 use Rattle.towers.specs.Towers.{tower_of}
 use Rattle.noise_file.specs.Contents.{entries, kind_byte, tower_byte, body_at, body}
 

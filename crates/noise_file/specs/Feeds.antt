@@ -11,19 +11,19 @@
 use Rattle.std.specs.Prelude.{◌≡◌, ℕ, ◌-◌, ◌≤◌, ◌⊎◌, List, ℤ, Some, None, Ok, Err, Option, Result}
 use Rattle.extractors.specs.Faults.{Refusal}
 use Rattle.extractors.specs.Piles.{Pile}
-use Rattle.ledger.specs.Faults as well
-use Rattle.ledger.specs.State.{State}
-use Rattle.ledger.specs.Steps.{Call.feed, Outcome, Outcome.fed, Outcome.refused, Step}
-use Rattle.kinds.specs.declared.kind.Symbols.{Symbols}
-use Rattle.kinds.specs.declared.kind.Symbols.TheVariants.{Coins, Faces, Labels}
+use Rattle.well.specs.Faults as well
+use Rattle.well.specs.State.{State}
+use Rattle.well.specs.Steps.{Call.feed, Outcome, Outcome.fed, Outcome.refused, Step}
+use Rattle.noise_file.specs.declared.kind.Symbols.{Symbols}
+use Rattle.noise_file.specs.declared.kind.Symbols.TheVariants.{Coins, Faces, Labels}
 use Rattle.towers.specs.declared.tower.Tower.{Tower}
-use Rattle.kinds.specs.declared.fault.FileFault.TheVariants.{Number, Memory}
+use Rattle.noise_file.specs.declared.fault.FileFault.TheVariants.{Number, Memory}
 use Rattle.noise_file.specs.declared.fault.FeedFault.{FeedFault}
 use Rattle.noise_file.specs.declared.fault.FeedFault.TheVariants.{File, Well}
 use Rattle.noise_file.specs.declared.fault.EntryFault.{EntryFault}
-use Rattle.kinds.specs.Faults as file
-use Rattle.kinds.specs.Letters.{symbols_of, code_in}
-use Rattle.kinds.specs.Reading.{ReadAs}
+use Rattle.noise_file.specs.Faults as file
+use Rattle.noise_file.specs.Letters.{symbols_of, code_in}
+use Rattle.noise_file.specs.Reading.{ReadAs}
 use Rattle.towers.specs.Towers.{pile_of, tower_of}
 use Rattle.noise_file.specs.Contents.{entries, kind_byte, tower_byte, body}
 

@@ -1,3 +1,7 @@
+pub mod Faults
+pub mod First
+pub mod Letters
+pub mod Reading
 pub mod Contents
 pub mod Rules
 pub mod Opened

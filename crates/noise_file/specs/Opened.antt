@@ -2,11 +2,11 @@
 --   Legible    entry i: its kind and its tower are known, its length is at most 4,096, its body lies in the file
 --   Accepted   a file that opens
 use Rattle.std.specs.Prelude.{◌≡◌, ℕ, ◌+◌, ◌<◌, ◌≤◌, true, List, length, is_some, Some, None, Ok, Err, Option, Result}
-use Rattle.kinds.specs.declared.kind.Symbols.{Symbols}
-use Rattle.kinds.specs.declared.fault.FileFault.{FileFault}
-use Rattle.kinds.specs.Letters.{symbols_of, code_in}
+use Rattle.noise_file.specs.declared.kind.Symbols.{Symbols}
+use Rattle.noise_file.specs.declared.fault.FileFault.{FileFault}
+use Rattle.noise_file.specs.Letters.{symbols_of, code_in}
 use Rattle.towers.specs.Towers.{tower_of}
-use Rattle.kinds.specs.Reading.{stray}
+use Rattle.noise_file.specs.Reading.{stray}
 use Rattle.noise_file.specs.Contents.{entries, key_length, line_at, kind_byte, tower_byte, length_of, body_at, body}
 
 pub record Legible (bs : List ℕ) (i : ℕ) : Type 0 where

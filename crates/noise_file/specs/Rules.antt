@@ -8,13 +8,13 @@
 --   due            all of these, in order
 use Rattle.std.specs.Prelude.{ℕ, ◌+◌, min, Bool, ◌&&◌, List, length, is_some, Some, None, Option, ◌==◌, nat_le}
 use Rattle.std.specs.Option.{option_map}
-use Rattle.kinds.specs.declared.kind.Symbols.{Symbols}
-use Rattle.kinds.specs.declared.fault.FileFault.{FileFault}
-use Rattle.kinds.specs.declared.fault.FileFault.TheVariants.{Cut, Entries, KeyLength, Kind, Tower, Length, End, Letter}
-use Rattle.kinds.specs.First.{unless, first, first_over}
-use Rattle.kinds.specs.Letters.{symbols_of, code_in}
+use Rattle.noise_file.specs.declared.kind.Symbols.{Symbols}
+use Rattle.noise_file.specs.declared.fault.FileFault.{FileFault}
+use Rattle.noise_file.specs.declared.fault.FileFault.TheVariants.{Cut, Entries, KeyLength, Kind, Tower, Length, End, Letter}
+use Rattle.noise_file.specs.First.{unless, first, first_over}
+use Rattle.noise_file.specs.Letters.{symbols_of, code_in}
 use Rattle.towers.specs.Towers.{tower_of}
-use Rattle.kinds.specs.Reading.{stray}
+use Rattle.noise_file.specs.Reading.{stray}
 use Rattle.noise_file.specs.Contents.{entries, key_length, line_at, kind_byte, tower_byte, length_of, body_at, body}
 
 abbrev between : ℕ → ℕ → ℕ → Bool

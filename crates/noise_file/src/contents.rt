@@ -1,14 +1,14 @@
 //! The contents of a file taken apart: the four bytes of an entry, where its body begins, and the entry itself.
 ghost use Rattle.std.specs.Prelude.{◌≡◌, ◌+◌, ◌<◌, ◌≤◌, length, None};
 ghost use Rattle.noise_file.specs.Contents.{entries, key_length, line_at, kind_byte, tower_byte, length_of, body_at};
-ghost use Rattle.kinds.specs.Letters.{code_in};
-ghost use Rattle.kinds.specs.Reading.{stray};
+ghost use Rattle.noise_file.specs.Letters.{code_in};
+ghost use Rattle.noise_file.specs.Reading.{stray};
 ghost use Rattle.noise_file.specs.Opened.{Legible, Accepted};
 ghost use Rattle.noise_file.specs.Entries.{symbols_in, body_in, Holds, Answered};
 
 use crate::entry::{Body, Entry};
-use kinds::fault::FileFault;
-use kinds::kind::Symbols;
+use crate::fault::FileFault;
+use crate::kind::Symbols;
 use towers::tower::Tower;
 
 /// What the contents say of one entry.

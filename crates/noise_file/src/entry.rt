@@ -1,11 +1,11 @@
 //! An opened entry: its symbols and its part of the file, which it borrows.
 ghost use Rattle.std.specs.Prelude.{◌≡◌, Some};
-ghost use Rattle.kinds.specs.Letters.{symbols_of, kind_letter, code_in};
-ghost use Rattle.kinds.specs.Reading.{stray};
+ghost use Rattle.noise_file.specs.Letters.{symbols_of, kind_letter, code_in};
+ghost use Rattle.noise_file.specs.Reading.{stray};
 ghost use Rattle.noise_file.specs.Entries.{symbols_in, body_in};
 
-use kinds::kind;
-use kinds::kind::{Coin, Die, Label, Symbols};
+use crate::kind;
+use crate::kind::{Coin, Die, Label, Symbols};
 use towers::tower::Tower;
 
 /// An entry's part of the file.

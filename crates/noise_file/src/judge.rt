@@ -6,8 +6,8 @@ ghost use Rattle.noise_file.specs.Opened.{Legible, Accepted};
 ghost use Rattle.extractors.specs.Calls.{Judged};
 
 use crate::contents::{begin_of, entry_at, read_line};
-use kinds::fault::FileFault;
-use kinds::kind::Symbols;
+use crate::fault::FileFault;
+use crate::kind::Symbols;
 use towers::tower::Tower;
 
 const MAX_ENTRIES: u8 = 15;

@@ -4,5 +4,6 @@ pub mod entry;
 pub mod fault;
 pub mod file;
 mod judge;
+pub mod kind;
 #[cfg(test)]
 mod tests;

@@ -1,8 +1,7 @@
 //! Each refusal of a file reached once with its place; an example file, whole, cut and fed.
-use crate::fault::EntryFault;
+use crate::fault::{EntryFault, FileFault};
 use crate::file::NoiseFile;
-use kinds::fault::FileFault;
-use kinds::kind::{Coin, Die, Kind, Label, read_body};
+use crate::kind::{Die, Label, read_body};
 use std::alloc::{AllocError, Global};
 use std::test::Fail;
 use well::store::Well;
@@ -94,7 +93,7 @@ fn a_refused_feed_names_its_entry(rt: HostRuntime) -> Result<(), Fail> {
         figures(file.feed(2, rt.alloc(), &mut well, &mut tray)),
         Some((2, 4, 7))
     );
-    assert_eq!(rt; well.report().poured, 0);
+    assert_eq!(rt; well.poured(), 0);
     Ok(())
 }
 
@@ -104,13 +103,4 @@ fn figures(answer: Result<(u32, i32), EntryFault>) -> Option<(usize, u8, usize)>
         Ok(_) => None,
         Err(fault) => Some((fault.entry, fault.number(), fault.place())),
     }
-}
-
-#[test]
-fn constants_are_the_sizes(rt: HostRuntime) {
-    assert_eq!(rt; (Coin::SIZE, Die::SIZE, Label::SIZE), (2, 6, 16));
-    assert_eq!(rt;
-        (Coin::alphabet(), Die::alphabet(), Label::alphabet()),
-        (2, 6, 16)
-    );
 }

@@ -27,11 +27,11 @@ filled_below f x out rec room (Err fault) out' e = memory_only (due 2 x (length 
 -- ONE STEP: the bits of pairs, then a bits of u, then b bits of v
 
 module _ (x : List ℕ) (rec : Recording 2 x) (p : Parts) (out out₁ : List ℕ) (taken : TakenApart x out (Ok p) out₁) where
-  pub u-recorded : Recording 2 (vec_items p.differing)
-  u-recorded = subst (Recording 2) (sym taken.1) (differ_recorded x rec)
+  pub u_recorded : Recording 2 (vec_items p.differing)
+  u_recorded = subst (Recording 2) (sym taken.1) (differ_recorded x rec)
 
-  pub v-recorded : Recording 2 (vec_items p.agreed)
-  v-recorded = subst (Recording 2) (sym taken.2) (common_recorded x rec)
+  pub v_recorded : Recording 2 (vec_items p.agreed)
+  v_recorded = subst (Recording 2) (sym taken.2) (common_recorded x rec)
 
   module _ (d : ℕ) (f : List ℕ → List Bool) (even : Even 2 f) where
     -- each part fits behind those before it, since it gives no more bits than it has codes
@@ -43,19 +43,19 @@ module _ (x : List ℕ) (rec : Recording 2 x) (p : Parts) (out out₁ : List ℕ
         let lv : vec_len p.agreed ≡ length (common x) = p.agreed.ok.0 ∙ ap length taken.2 in
         let eu : length (vec_items p.differing) ≡ length (differ x) = ap length taken.1 in
         let ev : length (vec_items p.agreed) ≡ length (common x) = ap length taken.2 in
-        let ba = peres_bound d f even (vec_items p.differing) u-recorded in
-        let bb = peres_bound d f even (vec_items p.agreed) v-recorded in
+        let ba = peres_bound d f even (vec_items p.differing) u_recorded in
+        let bb = peres_bound d f even (vec_items p.agreed) v_recorded in
         let ek = taken.0.0 in
         let few : length x ≤ 4096 = rec.1 in
         (omega arith, omega arith, omega arith, few)
 
   -- the three parts one behind the other are the bits of the depth
-  pub filled-step : (d : ℕ) (f : List ℕ → List Bool) → (d ≡ 0 → ⊥) → (u v part₁ part₂ : List ℕ) (a b m n : ℕ) → u ≡ vec_items p.differing → v ≡ vec_items p.agreed
+  pub filled_step : (d : ℕ) (f : List ℕ → List Bool) → (d ≡ 0 → ⊥) → (u v part₁ part₂ : List ℕ) (a b m n : ℕ) → u ≡ vec_items p.differing → v ≡ vec_items p.agreed
       → Written (peres (d - 1) f u) (take m (drop p.yielded out₁)) a part₁ → length part₁ ≡ length (take m (drop p.yielded out₁))
       → Written (peres (d - 1) f v) (take n (drop (p.yielded + a) (put_mid p.yielded m out₁ part₁))) b part₂
       → length part₂ ≡ length (take n (drop (p.yielded + a) (put_mid p.yielded m out₁ part₁)))
       → Written (peres d f x) out (p.yielded + a + b) (put_mid (p.yielded + a) n (put_mid p.yielded m out₁ part₁) part₂)
-  filled-step d f deep u v part₁ part₂ a b m n eu ev w₁ kept₁ w₂ kept₂ =
+  filled_step d f deep u v part₁ part₂ a b m n eu ev w₁ kept₁ w₂ kept₂ =
       let k = p.yielded in
       let bits-u = peres (d - 1) f u in
       let bits-v = peres (d - 1) f v in

@@ -7,7 +7,7 @@ use Rattle.classes.specs.Recordings.{Codes, Recording}
 use Rattle.extractors.specs.Bits.{byte, bytes}
 use Rattle.extractors.specs.Calls.{Written}
 use Rattle.extractors.specs.PairsRule.{pairs}
-use Rattle.extractors.proofs.Pairing.{two, write_same, write-other, write_all}
+use Rattle.extractors.proofs.Pairing.{two, write_same, write_other, write_all}
 use Rattle.peres.specs.PeresRule.{differ, common, peres}
 
 -- LENGTHS AND CODES
@@ -54,14 +54,14 @@ peres_step (suc d) f x h = let e : d ≡ suc d - 1 = omega arith in ap (λ k. pa
 -- THE LOOP OVER THE PAIRS
 
 module _ (x : List ℕ) (i : ℕ) (h : i + 2 ≤ length x) where
-  differ-more : differ (drop i x) ≡ cond (slice_index x i == slice_index x (i + 1)) 0 1 ∷ differ (drop (i + 2) x)
-  differ-more = ap differ (two x i h)
+  differ_more : differ (drop i x) ≡ cond (slice_index x i == slice_index x (i + 1)) 0 1 ∷ differ (drop (i + 2) x)
+  differ_more = ap differ (two x i h)
 
-  common-same : slice_index_or x i 0 ≡ slice_index x (i + 1) → common (drop i x) ≡ slice_index x (i + 1) ∷ common (drop (i + 2) x)
-  common-same e = ap common (two x i h) ∙ cond-true _ _ _ (eq-eqb (slice_index x i) (slice_index x (i + 1)) e) ∙ ap (λ a. a ∷ common (drop (i + 2) x)) e
+  common_same : slice_index_or x i 0 ≡ slice_index x (i + 1) → common (drop i x) ≡ slice_index x (i + 1) ∷ common (drop (i + 2) x)
+  common_same e = ap common (two x i h) ∙ cond-true _ _ _ (eq-eqb (slice_index x i) (slice_index x (i + 1)) e) ∙ ap (λ a. a ∷ common (drop (i + 2) x)) e
 
-  common-other : (slice_index x i ≢ slice_index x (i + 1)) → common (drop i x) ≡ common (drop (i + 2) x)
-  common-other e = ap common (two x i h) ∙ cond-false _ _ _ (ne_eqb (slice_index x i) (slice_index x (i + 1)) e)
+  common_other : (slice_index x i ≢ slice_index x (i + 1)) → common (drop i x) ≡ common (drop (i + 2) x)
+  common_other e = ap common (two x i h) ∙ cond-false _ _ _ (ne_eqb (slice_index x i) (slice_index x (i + 1)) e)
 
 no_pairs_left : (y : List ℕ) → length y < 2 → (differ y ≡ []) × (common y ≡ [])
 no_pairs_left [] h = (refl, refl)
@@ -87,25 +87,25 @@ abbrev pub flag : List ℕ → ℕ → ℕ
 flag x i = cond (slice_index x i == slice_index x (i + 1)) 0 1
 
 module _ (x before : List ℕ) (i k : ℕ) (out u v : List ℕ) (reading : Reading x before i k out u v) where
-  differ-read : i + 2 ≤ length x → (u' : List ℕ) → u' ≡ u ++ (flag x i ∷ []) → differ x ≡ u' ++ differ (drop (i + 2) x)
-  differ-read h u' du = list_more (differ x) u (differ (drop i x)) (differ (drop (i + 2) x)) u' (flag x i) reading.1 (differ-more x i h) du
+  differ_read : i + 2 ≤ length x → (u' : List ℕ) → u' ≡ u ++ (flag x i ∷ []) → differ x ≡ u' ++ differ (drop (i + 2) x)
+  differ_read h u' du = list_more (differ x) u (differ (drop i x)) (differ (drop (i + 2) x)) u' (flag x i) reading.1 (differ_more x i h) du
 
-  pub reading-same : i + 2 ≤ length x → slice_index x i ≡ slice_index x (i + 1) → (u' v' : List ℕ) → u' ≡ u ++ (flag x i ∷ []) → v' ≡ v ++ (slice_index x (i + 1) ∷ []) → Reading x before (i + 2) k out u' v'
-  reading-same h e u' v' du dv = (
+  pub reading_same : i + 2 ≤ length x → slice_index x i ≡ slice_index x (i + 1) → (u' v' : List ℕ) → u' ≡ u ++ (flag x i ∷ []) → v' ≡ v ++ (slice_index x (i + 1) ∷ []) → Reading x before (i + 2) k out u' v'
+  reading_same h e u' v' du dv = (
     write_same x before i k out h reading.0 e,
-    differ-read h u' du,
-    list_more (common x) v (common (drop i x)) (common (drop (i + 2) x)) v' (slice_index x (i + 1)) reading.2 (common-same x i h e) dv,
+    differ_read h u' du,
+    list_more (common x) v (common (drop i x)) (common (drop (i + 2) x)) v' (slice_index x (i + 1)) reading.2 (common_same x i h e) dv,
   )
 
-  pub reading-other : i + 2 ≤ length x → (slice_index x i ≢ slice_index x (i + 1)) → k < length out → (bit : ℕ) → bit ≡ byte (nat_lt (slice_index x (i + 1)) (slice_index x i)) → (u' : List ℕ) → u' ≡ u ++ (flag x i ∷ []) → Reading x before (i + 2) (k + 1) (slice_set out k bit) u' v
-  reading-other h e room bit is u' du = (
-    write-other x before i k out h reading.0 e room bit is,
-    differ-read h u' du,
-    reading.2 ∙ ap (λ r. v ++ r) (common-other x i h e),
+  pub reading_other : i + 2 ≤ length x → (slice_index x i ≢ slice_index x (i + 1)) → k < length out → (bit : ℕ) → bit ≡ byte (nat_lt (slice_index x (i + 1)) (slice_index x i)) → (u' : List ℕ) → u' ≡ u ++ (flag x i ∷ []) → Reading x before (i + 2) (k + 1) (slice_set out k bit) u' v
+  reading_other h e room bit is u' du = (
+    write_other x before i k out h reading.0 e room bit is,
+    differ_read h u' du,
+    reading.2 ∙ ap (λ r. v ++ r) (common_other x i h e),
   )
 
-  pub reading-all : length x - i < 2 → k ≤ length out → Written (pairs x) before k out × (u ≡ differ x) × (v ≡ common x)
-  reading-all less room =
+  pub reading_all : length x - i < 2 → k ≤ length out → Written (pairs x) before k out × (u ≡ differ x) × (v ≡ common x)
+  reading_all less room =
       let none = no_pairs_left (drop i x) (rw length-drop less) in (
         write_all x before i k out reading.0 less room,
         list_all (differ x) u (differ (drop i x)) reading.1 none.0,

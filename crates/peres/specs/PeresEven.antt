@@ -161,80 +161,80 @@ module _ (h : List ℕ → List Bool) (ex : Exchange 2 (CountLike 2) h) where
   put_step x t = joined (t₁ x t) (ex.put (differ x) (t₂ x t)) (ex.put (common x) (t₃ x t)) (single x)
 
   module _ (x : List ℕ) (t : List Bool) (rec : Recording 2 x) (fits : length t ≡ length (step h x)) where
-    long-t : length t ≡ length (pairs x) + (length (h (differ x)) + length (h (common x)))
-    long-t = fits ∙ length-append (pairs x) (h (differ x) ++ h (common x)) ∙ ap (λ n. length (pairs x) + n) (length-append (h (differ x)) (h (common x)))
+    long_t : length t ≡ length (pairs x) + (length (h (differ x)) + length (h (common x)))
+    long_t = fits ∙ length-append (pairs x) (h (differ x) ++ h (common x)) ∙ ap (λ n. length (pairs x) + n) (length-append (h (differ x)) (h (common x)))
 
     long₁ : length (t₁ x t) ≡ length (pairs x)
-    long₁ = length-take (length (pairs x)) t ∙ omega (arith, long-t)
+    long₁ = length-take (length (pairs x)) t ∙ omega (arith, long_t)
 
     long₂ : length (t₂ x t) ≡ length (h (differ x))
-    long₂ = length-take (length (h (differ x))) (drop (length (pairs x)) t) ∙ ap (min (length (h (differ x)))) (length-drop (length (pairs x)) t) ∙ omega (arith, long-t)
+    long₂ = length-take (length (h (differ x))) (drop (length (pairs x)) t) ∙ ap (min (length (h (differ x)))) (length-drop (length (pairs x)) t) ∙ omega (arith, long_t)
 
     long₃ : length (t₃ x t) ≡ length (h (common x))
-    long₃ = length-drop (length (h (differ x))) (drop (length (pairs x)) t) ∙ ap (λ n. n - length (h (differ x))) (length-drop (length (pairs x)) t) ∙ omega (arith, long-t)
+    long₃ = length-drop (length (h (differ x))) (drop (length (pairs x)) t) ∙ ap (λ n. n - length (h (differ x))) (length-drop (length (pairs x)) t) ∙ omega (arith, long_t)
 
-    like-differ : CountLike 2 (differ x) (ex.put (differ x) (t₂ x t))
-    like-differ = ex.like (differ x) (t₂ x t) (differ_recorded x rec) long₂
+    like_differ : CountLike 2 (differ x) (ex.put (differ x) (t₂ x t))
+    like_differ = ex.like (differ x) (t₂ x t) (differ_recorded x rec) long₂
 
-    like-common : CountLike 2 (common x) (ex.put (common x) (t₃ x t))
-    like-common = ex.like (common x) (t₃ x t) (common_recorded x rec) long₃
+    like_common : CountLike 2 (common x) (ex.put (common x) (t₃ x t))
+    like_common = ex.like (common x) (t₃ x t) (common_recorded x rec) long₃
 
-    put-parts : HasParts (t₁ x t) (ex.put (differ x) (t₂ x t)) (ex.put (common x) (t₃ x t)) (single x) (put_step x t)
-    put-parts =
+    put_parts : HasParts (t₁ x t) (ex.put (differ x) (t₂ x t)) (ex.put (common x) (t₃ x t)) (single x) (put_step x t)
+    put_parts =
         let p = cut_apart x rec.0 in
-        joined_parts (t₁ x t) (ex.put (differ x) (t₂ x t)) (ex.put (common x) (t₃ x t)) (single x) like-differ.0 like-common.0 p.coin p.short
-        (long₁ ∙ p.ones ∙ sym (like-differ.2 1)) (like-common.1 ∙ p.zeros ∙ sym (like-differ.2 0))
+        joined_parts (t₁ x t) (ex.put (differ x) (t₂ x t)) (ex.put (common x) (t₃ x t)) (single x) like_differ.0 like_common.0 p.coin p.short
+        (long₁ ∙ p.ones ∙ sym (like_differ.2 1)) (like_common.1 ∙ p.zeros ∙ sym (like_differ.2 0))
 
-    step-like : CountLike 2 x (put_step x t)
-    step-like =
+    step_like : CountLike 2 x (put_step x t)
+    step_like =
         let own = own_parts x rec.0 in (
-          put-parts.coins,
-          omega (arith, put-parts.long, own.long, like-differ.1),
-          λ c. put-parts.often c ∙ ap (λ n. cond (nat_lt c 2) n 0 + (2 * count c (ex.put (common x) (t₃ x t)) + count c (single x))) (like-differ.2 1)
-              ∙ ap (λ n. cond (nat_lt c 2) (count 1 (differ x)) 0 + (2 * n + count c (single x))) (like-common.2 c) ∙ sym (own.often c),
+          put_parts.coins,
+          omega (arith, put_parts.long, own.long, like_differ.1),
+          λ c. put_parts.often c ∙ ap (λ n. cond (nat_lt c 2) n 0 + (2 * count c (ex.put (common x) (t₃ x t)) + count c (single x))) (like_differ.2 1)
+              ∙ ap (λ n. cond (nat_lt c 2) (count 1 (differ x)) 0 + (2 * n + count c (single x))) (like_common.2 c) ∙ sym (own.often c),
         )
 
     gives₂ : h (differ (put_step x t)) ≡ t₂ x t
-    gives₂ = ap h put-parts.second ∙ ex.gives (differ x) (t₂ x t) (differ_recorded x rec) long₂
+    gives₂ = ap h put_parts.second ∙ ex.gives (differ x) (t₂ x t) (differ_recorded x rec) long₂
 
     gives₃ : h (common (put_step x t)) ≡ t₃ x t
-    gives₃ = ap h put-parts.third ∙ ex.gives (common x) (t₃ x t) (common_recorded x rec) long₃
+    gives₃ = ap h put_parts.third ∙ ex.gives (common x) (t₃ x t) (common_recorded x rec) long₃
 
     step_gives : step h (put_step x t) ≡ t
     step_gives =
-        ap (λ s. s ++ (h (differ (put_step x t)) ++ h (common (put_step x t)))) put-parts.first
+        ap (λ s. s ++ (h (differ (put_step x t)) ++ h (common (put_step x t)))) put_parts.first
         ∙ ap (λ s. t₁ x t ++ (s ++ h (common (put_step x t)))) gives₂
         ∙ ap (λ s. t₁ x t ++ (t₂ x t ++ s)) gives₃
         ∙ ap (λ s. t₁ x t ++ s) (take-append-drop (length (h (differ x))) (drop (length (pairs x)) t))
         ∙ take-append-drop (length (pairs x)) t
 
     -- the partner's bits are cut where those of x are, so that what x gives comes apart as x does
-    step-undone : put_step (put_step x t) (step h x) ≡ x
-    step-undone =
+    step_undone : put_step (put_step x t) (step h x) ≡ x
+    step_undone =
         let y = put_step x t in
         let own = step h x in
-        let n₁ : length (pairs y) ≡ length (pairs x) = ap length put-parts.first ∙ long₁ in
+        let n₁ : length (pairs y) ≡ length (pairs x) = ap length put_parts.first ∙ long₁ in
         let n₂ : length (h (differ y)) ≡ length (h (differ x)) = ap length gives₂ ∙ long₂ in
         let behind : drop (length (pairs y)) own ≡ h (differ x) ++ h (common x) = drop_at (pairs x) (h (differ x) ++ h (common x)) (length (pairs y)) (sym n₁) in
         let s₁ : t₁ y own ≡ pairs x = take_at (pairs x) (h (differ x) ++ h (common x)) (length (pairs y)) (sym n₁) in
         let s₂ : t₂ y own ≡ h (differ x) = ap (take (length (h (differ y)))) behind ∙ take_at (h (differ x)) (h (common x)) (length (h (differ y))) (sym n₂) in
         let s₃ : t₃ y own ≡ h (common x) = ap (drop (length (h (differ y)))) behind ∙ drop_at (h (differ x)) (h (common x)) (length (h (differ y))) (sym n₂) in
-        let u : ex.put (differ y) (t₂ y own) ≡ differ x = ap (λ z. ex.put z (t₂ y own)) put-parts.second ∙ ap (ex.put (ex.put (differ x) (t₂ x t))) s₂ ∙ ex.undone (differ x) (t₂ x t) (differ_recorded x rec) long₂ in
-        let v : ex.put (common y) (t₃ y own) ≡ common x = ap (λ z. ex.put z (t₃ y own)) put-parts.third ∙ ap (ex.put (ex.put (common x) (t₃ x t))) s₃ ∙ ex.undone (common x) (t₃ x t) (common_recorded x rec) long₃ in
+        let u : ex.put (differ y) (t₂ y own) ≡ differ x = ap (λ z. ex.put z (t₂ y own)) put_parts.second ∙ ap (ex.put (ex.put (differ x) (t₂ x t))) s₂ ∙ ex.undone (differ x) (t₂ x t) (differ_recorded x rec) long₂ in
+        let v : ex.put (common y) (t₃ y own) ≡ common x = ap (λ z. ex.put z (t₃ y own)) put_parts.third ∙ ap (ex.put (ex.put (common x) (t₃ x t))) s₃ ∙ ex.undone (common x) (t₃ x t) (common_recorded x rec) long₃ in
         ap (λ z. joined z (ex.put (differ y) (t₂ y own)) (ex.put (common y) (t₃ y own)) (single y)) s₁
         ∙ ap (λ z. joined (pairs x) z (ex.put (common y) (t₃ y own)) (single y)) u
         ∙ ap (λ z. joined (pairs x) (differ x) z (single y)) v
-        ∙ ap (λ z. joined (pairs x) (differ x) (common x) z) put-parts.rest
+        ∙ ap (λ z. joined (pairs x) (differ x) (common x) z) put_parts.rest
         ∙ (cut_apart x rec.0).whole
 
-  step-exchange : Exchange 2 (CountLike 2) (step h)
-  step-exchange = record { put = put_step; like = step-like; gives = step_gives; undone = step-undone }
+  step_exchange : Exchange 2 (CountLike 2) (step h)
+  step_exchange = record { put = put_step; like = step_like; gives = step_gives; undone = step_undone }
 
 -- EVERY DEPTH
 
 peres_exchange : (d : ℕ) (f : List ℕ → List Bool) → Exchange 2 (CountLike 2) f → Exchange 2 (CountLike 2) (peres d f)
 peres_exchange zero f ex = ex
-peres_exchange (suc d) f ex = step-exchange (peres d f) (peres_exchange d f ex)
+peres_exchange (suc d) f ex = step_exchange (peres d f) (peres_exchange d f ex)
 
 pub peres_even : (d : ℕ) (f : List ℕ → List Bool) → Even 2 f → Even 2 (peres d f)
 peres_even d f even = exchange_even (count_listing 2) (peres_exchange d f (even_exchange (count_listing 2) even))

@@ -7,7 +7,7 @@ use Rattle.std.proofs.lemmas.List.{take_all, drop_all, take_at, take_rest, drop_
 use Rattle.std.proofs.lemmas.Bool.{cases_lt}
 use Rattle.classes.specs.Recordings.{Sized, Codes, width}
 use Rattle.classes.specs.Classes.{words, same_counts}
-use Rattle.classes.proofs.Counts.{tally-le-length}
+use Rattle.classes.proofs.Counts.{tally_le_length}
 use Rattle.classes.proofs.Widths.{width_least}
 use Rattle.classes.proofs.Yields.{length_words, power_of_power}
 use Rattle.extractors.specs.Calls.{Written}
@@ -26,7 +26,7 @@ use Rattle.ranking.specs.SymbolScan.{empty_size}
 pub block_fits : (m : ℕ) → Sized m → (x : List ℕ) → length (block_bits m x) ≤ width m * length x
 block_fits m sized x =
     let n = length x in
-    let few : class_size m x ≤ m ^ n = omega (arith, size_tally m x, tally-le-length (same_counts m x) (words m n), length_words m n) in
+    let few : class_size m x ≤ m ^ n = omega (arith, size_tally m x, tally_le_length (same_counts m x) (words m n), length_words m n) in
     let wide : m ^ n ≤ 2 ^ (width m * n) = subst (λ k. m ^ n ≤ k) (power_of_power (width m) n) (pow-le-pow_left (width_least m sized).reaches n) in
     rank_bits_fit (class_size m x) (rank m x) (width m * n) (omega arith)
 
@@ -72,8 +72,8 @@ module _ (m b : ℕ) (x before rest block later : List ℕ) (given : ℕ) (out :
     (w : Codes m rest × (given + width m * length rest ≤ length out) × ((s : List Bool) × Written s before given out × (s ++ by_blocks b (block_bits m) rest ≡ by_blocks b (block_bits m) x)))
     (es : size ≡ b) (e : rest ≡ block ++ later) (l : length block ≡ min size (length rest)) where
   -- N and r are the size of its class and its rank
-  given-bits : (N r : ℕ) → N ≡ class_size m block → r ≡ rank m block → rank_bits N r ≡ block_bits m block
-  given-bits N r en er = ap₂ rank_bits en er
+  given_bits : (N r : ℕ) → N ≡ class_size m block → r ≡ rank m block → rank_bits N r ≡ block_bits m block
+  given_bits N r en er = ap₂ rank_bits en er
 
   long : length rest ≡ length block + length later
   long = ap length e ∙ length-append block later
@@ -81,14 +81,14 @@ module _ (m b : ℕ) (x before rest block later : List ℕ) (given : ℕ) (out :
   wide : width m * length rest ≡ width m * length block + width m * length later
   wide = ap (λ k. width m * k) long ∙ mul-add (width m) (length block) (length later)
 
-  pub block-codes : Codes m block
-  block-codes = (parts_all (λ c. c < m) block later (subst (All (λ c. c < m)) e w.0)).0
+  pub block_codes : Codes m block
+  block_codes = (parts_all (λ c. c < m) block later (subst (All (λ c. c < m)) e w.0)).0
 
-  pub block-short : length block ≤ b
-  block-short = omega (arith, es)
+  pub block_short : length block ≤ b
+  block_short = omega (arith, es)
 
   pub block_room : (N r : ℕ) → N ≡ class_size m block → r ≡ rank m block → given + length (rank_bits N r) ≤ length out
-  block_room N r en er = omega (arith, ap length (given-bits N r en er), block_fits m sized block, wide, w.1)
+  block_room N r en er = omega (arith, ap length (given_bits N r en er), block_fits m sized block, wide, w.1)
 
   pub tray_room : (N r : ℕ) → N ≡ class_size m block → r ≡ rank m block → length (rank_bits N r) ≤ length (take (length out - given) (drop given out))
   tray_room N r en er = omega (arith, block_room N r en er, ap length (take_rest out given), length-drop given out)
@@ -97,7 +97,7 @@ module _ (m b : ℕ) (x before rest block later : List ℕ) (given : ℕ) (out :
       → (q n : ℕ) (part : List ℕ) → Written (rank_bits N r) (take q (drop given out)) n part → length part ≡ length (take q (drop given out))
       → Writing m b x before later (given + n) (put_mid given q out part)
   writing_more N r en er q n part u kept =
-      let v = subst (λ t. Written t (take q (drop given out)) n part) (given-bits N r en er) u in
+      let v = subst (λ t. Written t (take q (drop given out)) n part) (given_bits N r en er) u in
       let s = w.2.0 in
       let same : length (put_mid given q out part) ≡ length out = length_put_mid given q out part kept in (
         (parts_all (λ c. c < m) block later (subst (All (λ c. c < m)) e w.0)).1,

@@ -20,13 +20,13 @@ bytes_high a t h = ap bytes (in_bits_high a t h)
 
 -- one bit more is written, at place i of the tray xs, where k bits are left
 module _ (xs all : List ℕ) (i k t : ℕ) (h : i < length xs) (p : 0 < k) (so_far : all ≡ take i xs ++ bytes (in_bits k t)) where
-  pub wrote-low : t < 2 ^ (k - 1) → all ≡ take (i + 1) (set xs i 0) ++ bytes (in_bits (k - 1) t)
-  wrote-low l =
+  pub wrote_low : t < 2 ^ (k - 1) → all ≡ take (i + 1) (set xs i 0) ++ bytes (in_bits (k - 1) t)
+  wrote_low l =
       so_far ∙ ap (λ (m : ℕ). take i xs ++ bytes (in_bits m t)) (back k p) ∙ ap (λ (r : List ℕ). take i xs ++ r) (bytes_low (k - 1) t l)
       ∙ sym (append_assoc (take i xs) (0 ∷ []) _) ∙ ap (λ (r : List ℕ). r ++ bytes (in_bits (k - 1) t)) (sym (take_more_set xs i 0 h))
 
-  pub wrote-high : 2 ^ (k - 1) ≤ t → all ≡ take (i + 1) (set xs i 1) ++ bytes (in_bits (k - 1) (t - 2 ^ (k - 1)))
-  wrote-high l =
+  pub wrote_high : 2 ^ (k - 1) ≤ t → all ≡ take (i + 1) (set xs i 1) ++ bytes (in_bits (k - 1) (t - 2 ^ (k - 1)))
+  wrote_high l =
       so_far ∙ ap (λ (m : ℕ). take i xs ++ bytes (in_bits m t)) (back k p) ∙ ap (λ (r : List ℕ). take i xs ++ r) (bytes_high (k - 1) t l)
       ∙ sym (append_assoc (take i xs) (1 ∷ []) _) ∙ ap (λ (r : List ℕ). r ++ bytes (in_bits (k - 1) (t - 2 ^ (k - 1)))) (sym (take_more_set xs i 1 h))
 
@@ -40,14 +40,14 @@ wrote_all xs ys all a i k t p q e d =
 
 -- the turn at the power a - 1
 module _ (a n r : ℕ) (p : 0 < a) where
-  pub turn-skip : n < 2 ^ (a - 1) → group_bits a n r ≡ group_bits (a - 1) n r
-  turn-skip h = ap (λ k. group_bits k n r) (back a p) ∙ group_bits_skip (a - 1) n r h
+  pub turn_skip : n < 2 ^ (a - 1) → group_bits a n r ≡ group_bits (a - 1) n r
+  turn_skip h = ap (λ k. group_bits k n r) (back a p) ∙ group_bits_skip (a - 1) n r h
 
-  pub turn-here : 2 ^ (a - 1) ≤ n → r < 2 ^ (a - 1) → group_bits a n r ≡ in_bits (a - 1) r
-  turn-here h l = ap (λ k. group_bits k n r) (back a p) ∙ group_bits_here (a - 1) n r h l
+  pub turn_here : 2 ^ (a - 1) ≤ n → r < 2 ^ (a - 1) → group_bits a n r ≡ in_bits (a - 1) r
+  turn_here h l = ap (λ k. group_bits k n r) (back a p) ∙ group_bits_here (a - 1) n r h l
 
-  pub turn-later : 2 ^ (a - 1) ≤ n → 2 ^ (a - 1) ≤ r → group_bits a n r ≡ group_bits (a - 1) (n - 2 ^ (a - 1)) (r - 2 ^ (a - 1))
-  turn-later h l = ap (λ k. group_bits k n r) (back a p) ∙ group_bits_next (a - 1) n r h l
+  pub turn_later : 2 ^ (a - 1) ≤ n → 2 ^ (a - 1) ≤ r → group_bits a n r ≡ group_bits (a - 1) (n - 2 ^ (a - 1)) (r - 2 ^ (a - 1))
+  turn_later h l = ap (λ k. group_bits k n r) (back a p) ∙ group_bits_next (a - 1) n r h l
 
 pub turn_end : (a n r : ℕ) → a ≡ 0 → group_bits a n r ≡ []
 turn_end a n r e = ap (λ k. group_bits k n r) e ∙ group_bits_none n r

@@ -5,7 +5,7 @@ use Rattle.std.proofs.lemmas.Bool.Decides.{nat_tests}
 use Rattle.classes.specs.Counting.{one_if, add_up, same_list}
 use Rattle.classes.specs.Recordings.{Codes, Recording, count}
 use Rattle.classes.specs.Classes.{count_class, CountLike}
-use Rattle.classes.proofs.Counts.{word_true, word_self, word_eq, add-up-same, add-up-add, add-up-one, add-up-zero}
+use Rattle.classes.proofs.Counts.{word_true, word_self, word_eq, add_up_same, add_up_add, add_up_one, add_up_zero}
 use Rattle.classes.proofs.Listings.{count_listing}
 use Rattle.extractors.specs.PairsRule.{pairs}
 use Rattle.ranking.specs.Groups.{in_bits, group_bits, rank_bits}
@@ -29,16 +29,16 @@ second_of_two = refl
 -- A CLASS OF ONE
 
 module _ (m : ℕ) (x : List ℕ) (h : Recording m x) (only : (w : List ℕ) → CountLike m x w → w ≡ x) where
-  size-one : class_size m x ≡ 1
-  size-one =
-      sym (add-up-one (count_class m x))
-      ∙ add-up-same (CountLike m x) (λ w. 1) (λ w. one_if (same_list eqb w x)) (λ w k. ap one_if (sym (word_eq w x (only w k)))) (count_class m x) ((count_listing m).none_else x h)
+  size_one : class_size m x ≡ 1
+  size_one =
+      sym (add_up_one (count_class m x))
+      ∙ add_up_same (CountLike m x) (λ w. 1) (λ w. one_if (same_list eqb w x)) (λ w k. ap one_if (sym (word_eq w x (only w k)))) (count_class m x) ((count_listing m).none_else x h)
       ∙ (count_listing m).each_once x x h ((count_listing m).itself x h)
 
-  block-of-one : block_bits m x ≡ []
-  block-of-one =
-      let none : rank m x ≡ 0 = omega (arith, rank_below m x h, size-one) in
-      ap₂ rank_bits size-one none ∙ one_of_one
+  block_of_one : block_bits m x ≡ []
+  block_of_one =
+      let none : rank m x ≡ 0 = omega (arith, rank_below m x h, size_one) in
+      ap₂ rank_bits size_one none ∙ one_of_one
 
 -- A CLASS OF TWO
 
@@ -55,20 +55,20 @@ module _ (m : ℕ) (x y : List ℕ) (h : Recording m x) (other : CountLike m x y
       at true q = sym (word_eq x y (sym (word_true y x q))) ∙ apart
       at false q = refl
 
-  size-two : class_size m x ≡ 2
-  size-two =
-      sym (add-up-one (count_class m x))
-      ∙ add-up-same (CountLike m x) (λ w. 1) (λ w. one_if (same_list eqb w x) + one_if (same_list eqb w y)) (λ w k. each w (either w k)) (count_class m x) ((count_listing m).none_else x h)
-      ∙ add-up-add (λ w. one_if (same_list eqb w x)) (λ w. one_if (same_list eqb w y)) (count_class m x)
+  size_two : class_size m x ≡ 2
+  size_two =
+      sym (add_up_one (count_class m x))
+      ∙ add_up_same (CountLike m x) (λ w. 1) (λ w. one_if (same_list eqb w x) + one_if (same_list eqb w y)) (λ w k. each w (either w k)) (count_class m x) ((count_listing m).none_else x h)
+      ∙ add_up_add (λ w. one_if (same_list eqb w x)) (λ w. one_if (same_list eqb w y)) (count_class m x)
       ∙ ap₂ ◌+◌ ((count_listing m).each_once x x h ((count_listing m).itself x h)) ((count_listing m).each_once x y h other)
     where
       each : (w : List ℕ) → (w ≡ x) ⊎ (w ≡ y) → 1 ≡ one_if (same_list eqb w x) + one_if (same_list eqb w y)
       each w (inl e) = sym (ap (λ v. one_if (same_list eqb v x) + one_if (same_list eqb v y)) e ∙ ap₂ (λ b c. one_if b + one_if c) (word_self x) apart)
       each w (inr e) = sym (ap (λ v. one_if (same_list eqb v x) + one_if (same_list eqb v y)) e ∙ ap₂ (λ b c. one_if b + one_if c) turned (word_self y))
 
-  rank-of-two : rank m x ≡ one_if (before y x)
-  rank-of-two =
-      add-up-same (CountLike m x) (λ w. one_if (before w x)) (λ w. cond (before y x) (one_if (same_list eqb w y)) 0) (λ w k. each w (either w k)) (count_class m x) ((count_listing m).none_else x h)
+  rank_of_two : rank m x ≡ one_if (before y x)
+  rank_of_two =
+      add_up_same (CountLike m x) (λ w. one_if (before w x)) (λ w. cond (before y x) (one_if (same_list eqb w y)) 0) (λ w k. each w (either w k)) (count_class m x) ((count_listing m).none_else x h)
       ∙ at (before y x)
     where
       nothing : (b : Bool) → ◌≡◌ {A = ℕ} (cond b 0 0) 0
@@ -85,10 +85,10 @@ module _ (m : ℕ) (x y : List ℕ) (h : Recording m x) (other : CountLike m x y
 
       at : (b : Bool) → add_up (λ w. cond b (one_if (same_list eqb w y)) 0) (count_class m x) ≡ one_if b
       at true = (count_listing m).each_once x y h other
-      at false = add-up-zero (count_class m x)
+      at false = add_up_zero (count_class m x)
 
-  block-of-two : block_bits m x ≡ before y x ∷ []
-  block-of-two = ap₂ rank_bits size-two rank-of-two ∙ at (before y x)
+  block_of_two : block_bits m x ≡ before y x ∷ []
+  block_of_two = ap₂ rank_bits size_two rank_of_two ∙ at (before y x)
     where
       at : (b : Bool) → rank_bits 2 (one_if b) ≡ b ∷ []
       at true = second_of_two
@@ -97,7 +97,7 @@ module _ (m : ℕ) (x y : List ℕ) (h : Recording m x) (other : CountLike m x y
 -- BLOCKS OF AT MOST TWO CODES
 
 pub block_of_none : (m : ℕ) → block_bits m [] ≡ []
-block_of_none m = block-of-one m [] (tt, omega arith) (λ w k. only w k.1)
+block_of_none m = block_of_one m [] (tt, omega arith) (λ w k. only w k.1)
   where
     only : (w : List ℕ) → length w ≡ 0 → w ≡ []
     only [] e = refl
@@ -107,7 +107,7 @@ flag_one : (c a : ℕ) → one_if (eqb c a) ≡ 1 → c ≡ a
 flag_one c a h = grind (arith, nat_tests)
 
 block_of_single : (m a : ℕ) → a < m → block_bits m (a ∷ []) ≡ []
-block_of_single m a h = block-of-one m (a ∷ []) ((h, tt), omega arith) (λ w k. only w k.1 (k.2 a))
+block_of_single m a h = block_of_one m (a ∷ []) ((h, tt), omega arith) (λ w k. only w k.1 (k.2 a))
   where
     only : (w : List ℕ) → length w ≡ 1 → count a w ≡ count a (a ∷ []) → w ≡ a ∷ []
     only [] e k = absurd (omega arith)
@@ -115,7 +115,7 @@ block_of_single m a h = block-of-one m (a ∷ []) ((h, tt), omega arith) (λ w k
     only (c ∷ (d ∷ w)) e k = absurd (omega arith)
 
 block_of_same : (m a : ℕ) → a < m → block_bits m (a ∷ (a ∷ [])) ≡ []
-block_of_same m a h = block-of-one m (a ∷ (a ∷ [])) ((h, (h, tt)), omega arith) (λ w k. only w k.1 (k.2 a))
+block_of_same m a h = block_of_one m (a ∷ (a ∷ [])) ((h, (h, tt)), omega arith) (λ w k. only w k.1 (k.2 a))
   where
     most : (b : Bool) → one_if b ≤ 1
     most true = omega arith
@@ -131,7 +131,7 @@ block_of_same m a h = block-of-one m (a ∷ (a ∷ [])) ((h, (h, tt)), omega ari
 
 block_of_other : (m a b : ℕ) → a < m → b < m → (a ≡ b → ⊥) → block_bits m (a ∷ (b ∷ [])) ≡ ltb b a ∷ []
 block_of_other m a b ha hb ne =
-    block-of-two m (a ∷ (b ∷ [])) (b ∷ (a ∷ [])) ((ha, (hb, tt)), omega arith)
+    block_of_two m (a ∷ (b ∷ [])) (b ∷ (a ∷ [])) ((ha, (hb, tt)), omega arith)
     ((hb, (ha, tt)), refl, λ c. omega arith)
     (ap (λ t. t && same_list eqb (b ∷ []) (a ∷ [])) (ne_eqb a b ne))
     (λ w k. either w k.1 (k.2 a) (k.2 b))

@@ -10,7 +10,7 @@ use Rattle.classes.specs.Counting.{one_if, tally}
 use Rattle.classes.specs.Recordings.{count}
 use Rattle.classes.specs.Classes.{words, agree}
 use Rattle.ranking.specs.Factorials.{factorial, product_below}
-use Rattle.ranking.specs.Scans.{sum_below, sum_same, sum_mul, tally-same, tally-none, tally_led}
+use Rattle.ranking.specs.Scans.{sum_below, sum_same, sum_mul, tally_same, tally_none, tally_led}
 
 -- the word y holds each code c below m as often as cs c says
 abbrev pub has_counts : ℕ → (ℕ → ℕ) → List ℕ → Bool
@@ -124,11 +124,11 @@ multinomial m (suc n) cs e =
     each ih c b =
         ⊎_elim
         (λ (p : 0 < cs c).
-        ap₂ ◌*◌ (tally-same _ _ (λ l. counts_less m c cs l p) (words m n)) (factorials_less m c cs b p)
+        ap₂ ◌*◌ (tally_same _ _ (λ l. counts_less m c cs l p) (words m n)) (factorials_less m c cs b p)
         ∙ mul_left_comm (arrangements m n (less c cs)) (cs c) (factorials m (less c cs))
         ∙ ap (λ x. cs c * x) (ih (less c cs) (omega (arith, total_less m c cs b p))))
         (λ (p : cs c ≤ 0). let z : cs c ≡ 0 = omega arith in
-        ap (λ x. x * factorials m cs) (tally-none _ (λ l. counts_none m c cs l b z) (words m n))
+        ap (λ x. x * factorials m cs) (tally_none _ (λ l. counts_none m c cs l b z) (words m n))
         ∙ zero-mul (factorials m cs) ∙ sym (ap (λ x. x * factorial n) z ∙ zero-mul (factorial n)))
         (cases_lt 0 (cs c))
 
@@ -154,10 +154,10 @@ begin_with m n c cs e b =
     eq_of_mul-eq-mul_right F (factorials_pos m (less c cs)) (A * cs c) (tally (λ l. has_counts m cs (c ∷ l)) (words m n) * suc n)
     (mul_assoc A (cs c) F ∙ ap (λ x. A * x) (sym (factorials_less m c cs b p)) ∙ all ∙ ap (λ x. suc n * x) (sym rest)
     ∙ sym (mul_assoc (suc n) B F) ∙ ap (λ x. x * F) (mul_comm (suc n) B)
-    ∙ ap (λ x. x * suc n * F) (sym (tally-same _ _ (λ l. counts_less m c cs l p) (words m n)))))
+    ∙ ap (λ x. x * suc n * F) (sym (tally_same _ _ (λ l. counts_less m c cs l p) (words m n)))))
     (λ (p : cs c ≤ 0). let z : cs c ≡ 0 = omega arith in
     ap (λ x. arrangements m (suc n) cs * x) z ∙ mul-zero _
-    ∙ sym (ap (λ x. x * suc n) (tally-none _ (λ l. counts_none m c cs l b z) (words m n)) ∙ zero-mul (suc n)))
+    ∙ sym (ap (λ x. x * suc n) (tally_none _ (λ l. counts_none m c cs l b z) (words m n)) ∙ zero-mul (suc n)))
     (cases_lt 0 (cs c))
 
 -- HOW MANY AT MOST

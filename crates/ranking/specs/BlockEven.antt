@@ -5,7 +5,7 @@ use Rattle.classes.specs.Counting.{one_if, tally, same_bits}
 use Rattle.classes.specs.Recordings.{Recording}
 use Rattle.classes.specs.Classes.{count_class, CountLike}
 use Rattle.classes.specs.Evenness.{EvenOn}
-use Rattle.classes.proofs.Counts.{add-up-same, add-up-map}
+use Rattle.classes.proofs.Counts.{add_up_same, add_up_map}
 use Rattle.classes.proofs.Listings.{count_listing}
 use Rattle.ranking.specs.Groups.{rank_bits}
 use Rattle.ranking.specs.Ranks.{rank, class_size, block_bits}
@@ -18,9 +18,9 @@ pub block_count : (m : ℕ) (x : List ℕ) → Recording m x → class_size m x 
 block_count m x h few s =
     let N = class_size m x in
     let giving : ℕ → ℕ = λ r. one_if (same_bits (rank_bits N r) s) in
-    add-up-same (CountLike m x) (λ z. one_if (same_bits (block_bits m z) s)) (λ z. giving (rank m z))
+    add_up_same (CountLike m x) (λ z. one_if (same_bits (block_bits m z) s)) (λ z. giving (rank m z))
     (λ z k. ap (λ n. one_if (same_bits (rank_bits n (rank m z)) s)) (like_size m x z h k)) (count_class m x) ((count_listing m).none_else x h)
-    ∙ sym (add-up-map giving (rank m) (count_class m x))
+    ∙ sym (add_up_map giving (rank m) (count_class m x))
     ∙ ap (tally (λ r. same_bits (rank_bits N r) s)) (ranks_in_order m x h)
     ∙ group_law N few s
 

@@ -10,7 +10,7 @@ use Rattle.classes.specs.Recordings.{Recording, Sized, count, width}
 use Rattle.classes.specs.Classes.{CountLike, count_class}
 use Rattle.classes.specs.Evenness.{EvenOn, Even}
 use Rattle.classes.specs.Exchange.{Exchange}
-use Rattle.classes.proofs.Counts.{add-up-same, add-up-append}
+use Rattle.classes.proofs.Counts.{add_up_same, add_up_append}
 use Rattle.classes.proofs.Exchanges.{exchange_even, even_exchange}
 use Rattle.classes.proofs.Listings.{count_listing}
 use Rattle.classes.proofs.Yields.{yield_bound}
@@ -20,7 +20,7 @@ use Rattle.ranking.specs.Blocks.{in_blocks, by_blocks}
 -- PARTS OF A RECORDING
 
 count_append : (c : ℕ) (x y : List ℕ) → count c (x ++ y) ≡ count c x + count c y
-count_append c x y = add-up-append _ x y
+count_append c x y = add_up_append _ x y
 
 pub front_recording : (m b : ℕ) (x : List ℕ) → Recording m x → Recording m (take b x)
 front_recording m b x h =
@@ -58,8 +58,8 @@ module _ (m b : ℕ) (g h : List ℕ → List Bool) (E : Exchange m (CountLike m
     front_fits : length (take (length (g (take b x))) t) ≡ length (g (take b x))
     front_fits = length-take-le (length (g (take b x))) t (omega (arith, total))
 
-    rest-fits : length (drop (length (g (take b x))) t) ≡ length (h (drop b x))
-    rest-fits = length-drop (length (g (take b x))) t ∙ omega (arith, total)
+    rest_fits : length (drop (length (g (take b x))) t) ≡ length (h (drop b x))
+    rest_fits = length-drop (length (g (take b x))) t ∙ omega (arith, total)
 
     abbrev p : List ℕ
     p = E.put (take b x) (take (length (g (take b x))) t)
@@ -67,55 +67,55 @@ module _ (m b : ℕ) (g h : List ℕ → List Bool) (E : Exchange m (CountLike m
     abbrev q : List ℕ
     q = H.put (drop b x) (drop (length (g (take b x))) t)
 
-    p-like : CountLike m (take b x) p
-    p-like = E.like (take b x) (take (length (g (take b x))) t) (front_recording m b x hx) front_fits
+    p_like : CountLike m (take b x) p
+    p_like = E.like (take b x) (take (length (g (take b x))) t) (front_recording m b x hx) front_fits
 
-    q-like : CountLike m (drop b x) q
-    q-like = H.like (drop b x) (drop (length (g (take b x))) t) (rest_recording m b x hx) rest-fits
+    q_like : CountLike m (drop b x) q
+    q_like = H.like (drop b x) (drop (length (g (take b x))) t) (rest_recording m b x hx) rest_fits
 
-    p-gives : g p ≡ take (length (g (take b x))) t
-    p-gives = E.gives (take b x) (take (length (g (take b x))) t) (front_recording m b x hx) front_fits
+    p_gives : g p ≡ take (length (g (take b x))) t
+    p_gives = E.gives (take b x) (take (length (g (take b x))) t) (front_recording m b x hx) front_fits
 
-    q-gives : h q ≡ drop (length (g (take b x))) t
-    q-gives = H.gives (drop b x) (drop (length (g (take b x))) t) (rest_recording m b x hx) rest-fits
+    q_gives : h q ≡ drop (length (g (take b x))) t
+    q_gives = H.gives (drop b x) (drop (length (g (take b x))) t) (rest_recording m b x hx) rest_fits
 
     again : (take b (p ++ q) ≡ p) × (drop b (p ++ q) ≡ q)
-    again = parts_again b x p q p-like.1 q-like.1
+    again = parts_again b x p q p_like.1 q_like.1
 
-    both-like : CountLike m x (put_both x t)
-    both-like = (
-      All-append (λ c. c < m) p q p-like.0 q-like.0,
-      length-append p q ∙ ap₂ ◌+◌ p-like.1 q-like.1 ∙ sym (length-append (take b x) (drop b x)) ∙ ap length (take-append-drop b x),
-      λ c. count_append c p q ∙ ap₂ ◌+◌ (p-like.2 c) (q-like.2 c) ∙ sym (count_append c (take b x) (drop b x)) ∙ ap (count c) (take-append-drop b x),
+    both_like : CountLike m x (put_both x t)
+    both_like = (
+      All-append (λ c. c < m) p q p_like.0 q_like.0,
+      length-append p q ∙ ap₂ ◌+◌ p_like.1 q_like.1 ∙ sym (length-append (take b x) (drop b x)) ∙ ap length (take-append-drop b x),
+      λ c. count_append c p q ∙ ap₂ ◌+◌ (p_like.2 c) (q_like.2 c) ∙ sym (count_append c (take b x) (drop b x)) ∙ ap (count c) (take-append-drop b x),
     )
 
-    both-gives : both (put_both x t) ≡ t
-    both-gives =
-        ap₂ (λ u v. g u ++ h v) again.0 again.1 ∙ ap₂ ◌++◌ p-gives q-gives ∙ take-append-drop (length (g (take b x))) t
+    both_gives : both (put_both x t) ≡ t
+    both_gives =
+        ap₂ (λ u v. g u ++ h v) again.0 again.1 ∙ ap₂ ◌++◌ p_gives q_gives ∙ take-append-drop (length (g (take b x))) t
 
-    both-undone : put_both (put_both x t) (both x) ≡ x
-    both-undone =
-        let n : length (g p) ≡ length (g (take b x)) = ap length p-gives ∙ front_fits in
+    both_undone : put_both (put_both x t) (both x) ≡ x
+    both_undone =
+        let n : length (g p) ≡ length (g (take b x)) = ap length p_gives ∙ front_fits in
         ap₂ (λ u v. E.put u (take (length (g u)) (both x)) ++ H.put v (drop (length (g u)) (both x))) again.0 again.1
         ∙ ap (λ k. E.put p (take k (both x)) ++ H.put q (drop k (both x))) n
         ∙ ap₂ (λ s r. E.put p s ++ H.put q r) (take-append_seam (g (take b x)) (h (drop b x))) (drop-append_seam (g (take b x)) (h (drop b x)))
         ∙ ap₂ ◌++◌ (E.undone (take b x) (take (length (g (take b x))) t) (front_recording m b x hx) front_fits)
-        (H.undone (drop b x) (drop (length (g (take b x))) t) (rest_recording m b x hx) rest-fits)
+        (H.undone (drop b x) (drop (length (g (take b x))) t) (rest_recording m b x hx) rest_fits)
         ∙ take-append-drop b x
 
-  both-exchange : Exchange m (CountLike m) both
-  both-exchange = record {
+  both_exchange : Exchange m (CountLike m) both
+  both_exchange = record {
     put = put_both;
-    like = both-like;
-    gives = both-gives;
-    undone = both-undone;
+    like = both_like;
+    gives = both_gives;
+    undone = both_undone;
   }
 
 -- BLOCKS
 
 in_blocks_exchange : (m k b : ℕ) (g : List ℕ → List Bool) → Exchange m (CountLike m) g → Exchange m (CountLike m) (in_blocks k b g)
 in_blocks_exchange m zero b g E = even_exchange (count_listing m) (no_bits_even m)
-in_blocks_exchange m (suc k) b g E = both-exchange m b g (in_blocks k b g) E (in_blocks_exchange m k b g E)
+in_blocks_exchange m (suc k) b g E = both_exchange m b g (in_blocks k b g) E (in_blocks_exchange m k b g E)
 
 by_blocks_exchange : (m b : ℕ) (g : List ℕ → List Bool) → Exchange m (CountLike m) g → Exchange m (CountLike m) (by_blocks b g)
 by_blocks_exchange m b g E = record {
@@ -151,7 +151,7 @@ even_same m f g x h same even s t e = one s ∙ even s t e ∙ sym (one t)
   where
     one : (u : List Bool) → tally (λ z. same_bits (f z) u) (count_class m x) ≡ tally (λ z. same_bits (g z) u) (count_class m x)
     one u =
-        add-up-same (CountLike m x) (λ z. one_if (same_bits (f z) u)) (λ z. one_if (same_bits (g z) u)) (λ z k. ap (λ bs. one_if (same_bits bs u)) (same z k))
+        add_up_same (CountLike m x) (λ z. one_if (same_bits (f z) u)) (λ z. one_if (same_bits (g z) u)) (λ z k. ap (λ bs. one_if (same_bits bs u)) (same z k))
         (count_class m x) ((count_listing m).none_else x h)
 
 short_even : (m b : ℕ) (f : List ℕ → List Bool) → EvenBlocks m b f → Even m (short b f)
@@ -183,15 +183,15 @@ even_empty m b sized f even = none (f []) (omega (arith, few, mul-zero (width m)
 pub in_blocks_empty : (k b : ℕ) (f : List ℕ → List Bool) → f [] ≡ [] → in_blocks k b f [] ≡ []
 in_blocks_empty zero b f e = refl
 in_blocks_empty (suc k) b f e =
-    ap₂ (λ u v. f u ++ in_blocks k b f v) (nothing-front b) (nothing-rest b) ∙ ap₂ ◌++◌ e (in_blocks_empty k b f e)
+    ap₂ (λ u v. f u ++ in_blocks k b f v) (nothing_front b) (nothing_rest b) ∙ ap₂ ◌++◌ e (in_blocks_empty k b f e)
   where
-    nothing-front : (n : ℕ) → ◌≡◌ {A = List ℕ} (take n []) []
-    nothing-front zero = refl
-    nothing-front (suc n) = refl
+    nothing_front : (n : ℕ) → ◌≡◌ {A = List ℕ} (take n []) []
+    nothing_front zero = refl
+    nothing_front (suc n) = refl
 
-    nothing-rest : (n : ℕ) → ◌≡◌ {A = List ℕ} (drop n []) []
-    nothing-rest zero = refl
-    nothing-rest (suc n) = refl
+    nothing_rest : (n : ℕ) → ◌≡◌ {A = List ℕ} (drop n []) []
+    nothing_rest zero = refl
+    nothing_rest (suc n) = refl
 
 -- blocks beyond the last give nothing
 pub in_blocks_enough : (k b : ℕ) (f : List ℕ → List Bool) (x : List ℕ) → f [] ≡ [] → 1 ≤ b → length x ≤ k → in_blocks k b f x ≡ by_blocks b f x

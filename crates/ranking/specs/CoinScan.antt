@@ -11,7 +11,7 @@ use Rattle.classes.specs.Classes.{words}
 use Rattle.ranking.specs.Binomials.{choose}
 use Rattle.ranking.specs.Ranks.{rank, class_size}
 use Rattle.ranking.specs.Pascal.{choose_over}
-use Rattle.ranking.specs.Scans.{tally-same, tally-none, tally_led, size_tally, rank_le_size, rank_step}
+use Rattle.ranking.specs.Scans.{tally_same, tally_none, tally_led, size_tally, rank_le_size, rank_step}
 
 -- the test for z zeros and k ones
 abbrev coins : ℕ → ℕ → List ℕ → Bool
@@ -40,8 +40,8 @@ coins_many (suc n) zero (suc k) e =
     omega (
       arith,
       tally_led (coins 0 (suc k)) 2 (words 2 n),
-      tally-none _ (zero_no (suc k)) (words 2 n),
-      tally-same _ _ (one_led 0 k) (words 2 n),
+      tally_none _ (zero_no (suc k)) (words 2 n),
+      tally_same _ _ (one_led 0 k) (words 2 n),
       coins_many n zero k (omega arith),
       choose_over n (suc k) (omega arith),
     )
@@ -49,16 +49,16 @@ coins_many (suc n) (suc z) zero e =
     omega (
       arith,
       tally_led (coins (suc z) 0) 2 (words 2 n),
-      tally-none _ (one_no (suc z)) (words 2 n),
-      tally-same _ _ (zero_led z 0) (words 2 n),
+      tally_none _ (one_no (suc z)) (words 2 n),
+      tally_same _ _ (zero_led z 0) (words 2 n),
       coins_many n z zero (omega arith),
     )
 coins_many (suc n) (suc z) (suc k) e =
     omega (
       arith,
       tally_led (coins (suc z) (suc k)) 2 (words 2 n),
-      tally-same _ _ (zero_led z (suc k)) (words 2 n),
-      tally-same _ _ (one_led (suc z) k) (words 2 n),
+      tally_same _ _ (zero_led z (suc k)) (words 2 n),
+      tally_same _ _ (one_led (suc z) k) (words 2 n),
       coins_many n z (suc k) (omega arith),
       coins_many n (suc z) k (omega arith),
     )
@@ -76,8 +76,8 @@ coin_rank_zero : (x : List ℕ) → rank 2 (0 ∷ x) ≡ rank 2 x
 coin_rank_zero x = rank_step 2 0 x (omega arith) ∙ zero-add _
 
 coins_less : (n z k : ℕ) → z + k ≡ n → tally (λ l. coins (0 + z) (1 + k) (0 ∷ l)) (words 2 n) ≡ choose n (suc k)
-coins_less n zero k e = rw (one-add k) (tally-none _ (zero_no (suc k)) (words 2 n) ∙ sym (choose_over n (suc k) (omega arith)))
-coins_less n (suc z) k e = rw (one-add k, zero-add (suc z)) (tally-same _ _ (zero_led z (suc k)) (words 2 n) ∙ coins_many n z (suc k) (omega arith))
+coins_less n zero k e = rw (one-add k) (tally_none _ (zero_no (suc k)) (words 2 n) ∙ sym (choose_over n (suc k) (omega arith)))
+coins_less n (suc z) k e = rw (one-add k, zero-add (suc z)) (tally_same _ _ (zero_led z (suc k)) (words 2 n) ∙ coins_many n z (suc k) (omega arith))
 
 coin_rank_one : (x : List ℕ) → Codes 2 x → rank 2 (1 ∷ x) ≡ choose (length x) (suc (count 1 x)) + rank 2 x
 coin_rank_one x h =
@@ -108,8 +108,8 @@ module _ (s : List ℕ) (i : ℕ) (h : i < length s) (codes : Codes 2 s) where
             ∙ ap₂ (λ n k. choose n k + rank 2 (drop (i + 1) s)) (length-drop (i + 1) s) (sym t),
       )
 
-  pub turn-zero : (slice_index s i ≢ 1) → (count 1 (drop i s) ≡ count 1 (drop (i + 1) s)) × (rank 2 (drop i s) ≡ rank 2 (drop (i + 1) s))
-  turn-zero ne =
+  pub turn_zero : (slice_index s i ≢ 1) → (count 1 (drop i s) ≡ count 1 (drop (i + 1) s)) × (rank 2 (drop i s) ≡ rank 2 (drop (i + 1) s))
+  turn_zero ne =
       let b : slice_index_or s i 0 < 2 = All-get_or (λ c. c < 2) s i 0 h codes in
       let e : slice_index_or s i 0 ≡ 0 = other (slice_index s i) b ne in
       let d : drop i s ≡ 0 ∷ drop (i + 1) s = drop_more s i 0 h ∙ ap (λ c. c ∷ drop (i + 1) s) e in

@@ -7,7 +7,7 @@ use Rattle.std.specs.List.{range_with_len}
 use Rattle.std.proofs.lemmas.Bool.{lt-ltb, le-ltb, eq-eqb, ne_eqb, cases_lt, cases_order, cond_both}
 use Rattle.std.proofs.lemmas.Bool.Decides.{nat_tests}
 use Rattle.classes.specs.Counting.{one_if, tally, same_bits}
-use Rattle.classes.proofs.Counts.{add-up-append, add-up-zero}
+use Rattle.classes.proofs.Counts.{add_up_append, add_up_zero}
 use Rattle.ranking.specs.Groups.{in_bits, group_bits, rank_bits}
 use Rattle.ranking.specs.GroupLaw.{GroupLaw}
 
@@ -99,12 +99,12 @@ tally_parts : (p q q' : ℕ → Bool) (c n : ℕ) → ((i : ℕ) → i < c → p
     → tally p (range_with_len 0 (c + n)) ≡ tally q (range_with_len 0 c) + tally q' (range_with_len 0 n)
 tally_parts p q q' c n low high =
     let e : 0 + c ≡ c + 0 = omega arith in
-    ap (tally p) (counting_append 0 c n) ∙ add-up-append (λ r. one_if (p r)) (range_with_len 0 c) (range_with_len (0 + c) n)
-    ∙ ap₂ ◌+◌ (tally_moved p q 0 0 c (λ i h k. ap p (drop-zero i) ∙ low i (omega arith)))
+    ap (tally p) (counting_append 0 c n) ∙ add_up_append (λ r. one_if (p r)) (range_with_len 0 c) (range_with_len (0 + c) n)
+    ∙ ap₂ ◌+◌ (tally_moved p q 0 0 c (λ i h k. ap p (drop_zero i) ∙ low i (omega arith)))
     (ap (λ k. tally p (range_with_len k n)) e ∙ tally_moved p q' c 0 n (λ i h k. high i (omega arith)))
   where
-    drop-zero : (i : ℕ) → 0 + i ≡ i
-    drop-zero i = omega arith
+    drop_zero : (i : ℕ) → 0 + i ≡ i
+    drop_zero i = omega arith
 
 -- EACH BIT STRING ONCE
 
@@ -133,9 +133,9 @@ places_once (suc a) s =
 
     halves : (u : List Bool) → ((v : List Bool) → tally (λ t. same_bits (in_bits a t) v) (range_with_len 0 (2 ^ a)) ≡ one_if (length v == a))
         → tally (λ t. same_bits (false ∷ in_bits a t) u) (range_with_len 0 (2 ^ a)) + tally (λ t. same_bits (true ∷ in_bits a t) u) (range_with_len 0 (2 ^ a)) ≡ one_if (length u == suc a)
-    halves [] ih = ap₂ ◌+◌ (add-up-zero (range_with_len 0 (2 ^ a))) (add-up-zero (range_with_len 0 (2 ^ a))) ∙ never a
-    halves (false ∷ u) ih = omega (arith, ih u, add-up-zero (range_with_len 0 (2 ^ a)), ap one_if (next (length u)))
-    halves (true ∷ u) ih = omega (arith, ih u, add-up-zero (range_with_len 0 (2 ^ a)), ap one_if (next (length u)))
+    halves [] ih = ap₂ ◌+◌ (add_up_zero (range_with_len 0 (2 ^ a))) (add_up_zero (range_with_len 0 (2 ^ a))) ∙ never a
+    halves (false ∷ u) ih = omega (arith, ih u, add_up_zero (range_with_len 0 (2 ^ a)), ap one_if (next (length u)))
+    halves (true ∷ u) ih = omega (arith, ih u, add_up_zero (range_with_len 0 (2 ^ a)), ap one_if (next (length u)))
 
 -- THE POWERS OF A NUMBER
 

@@ -34,36 +34,36 @@ module _ {X : Type 0} (lt : X → X → Bool) where
   Ordered [] = Unit {0}
   Ordered (x ∷ xs) = (lt x x ≡ false) × All (Behind x) xs × Ordered xs
 
-  ordered-kept : (p : X → Bool) (xs : List X) → Ordered xs → Ordered (filter p xs)
-  ordered-kept p [] o = tt
-  ordered-kept p (x ∷ xs) o = at (p x) (ordered-kept p xs o.2)
+  ordered_kept : (p : X → Bool) (xs : List X) → Ordered xs → Ordered (filter p xs)
+  ordered_kept p [] o = tt
+  ordered_kept p (x ∷ xs) o = at (p x) (ordered_kept p xs o.2)
     where
       at : (b : Bool) → Ordered (filter p xs) → Ordered (cond b (x ∷ filter p xs) (filter p xs))
       at true r = (o.0, all_kept_by p (Behind x) xs o.1, r)
       at false r = r
 
-  ordered-append : (xs ys : List X) → Ordered xs → Ordered ys → All (λ x. All (Behind x) ys) xs → Ordered (xs ++ ys)
-  ordered-append [] ys o r h = r
-  ordered-append (x ∷ xs) ys o r h = (o.0, All-append (Behind x) xs ys o.1 h.0, ordered-append xs ys o.2 r h.1)
+  ordered_append : (xs ys : List X) → Ordered xs → Ordered ys → All (λ x. All (Behind x) ys) xs → Ordered (xs ++ ys)
+  ordered_append [] ys o r h = r
+  ordered_append (x ∷ xs) ys o r h = (o.0, All-append (Behind x) xs ys o.1 h.0, ordered_append xs ys o.2 r h.1)
 
-  tally-no : (p : X → Bool) (xs : List X) → All (λ x. p x ≡ false) xs → tally p xs ≡ 0
-  tally-no p [] h = refl
-  tally-no p (x ∷ xs) h = ap₂ (λ b n. one_if b + n) h.0 (tally-no p xs h.1)
+  tally_no : (p : X → Bool) (xs : List X) → All (λ x. p x ≡ false) xs → tally p xs ≡ 0
+  tally_no p [] h = refl
+  tally_no p (x ∷ xs) h = ap₂ (λ b n. one_if b + n) h.0 (tally_no p xs h.1)
 
   -- the number of elements before each one is its place
   places : (xs : List X) → Ordered xs → map (λ x. tally (λ y. lt y x) xs) xs ≡ range_with_len 0 (length xs)
   places [] o = refl
   places (x ∷ xs) o =
       ap₂ ◌∷◌
-      (ap₂ (λ b n. one_if b + n) o.0 (tally-no (λ y. lt y x) xs (All-weaker (Behind x) (λ y. lt y x ≡ false) (λ y h. h.1) xs o.1)))
+      (ap₂ (λ b n. one_if b + n) o.0 (tally_no (λ y. lt y x) xs (All-weaker (Behind x) (λ y. lt y x ≡ false) (λ y h. h.1) xs o.1)))
       (map_same (λ z. one_if (lt x z) + tally (λ y. lt y z) xs) (λ z. suc (tally (λ y. lt y z) xs)) xs
       (All-weaker (Behind x) (λ z. one_if (lt x z) + tally (λ y. lt y z) xs ≡ suc (tally (λ y. lt y z) xs))
       (λ z h. ap (λ b. one_if b + tally (λ y. lt y z) xs) h.0 ∙ one-add (tally (λ y. lt y z) xs)) xs o.1)
-      ∙ sym (map-map suc (λ z. tally (λ y. lt y z) xs) xs) ∙ ap (map suc) (places xs o.2) ∙ counting-suc 0 (length xs))
+      ∙ sym (map-map suc (λ z. tally (λ y. lt y z) xs) xs) ∙ ap (map suc) (places xs o.2) ∙ counting_suc 0 (length xs))
     where
-      counting-suc : (s n : ℕ) → map suc (range_with_len s n) ≡ range_with_len (s + 1) n
-      counting-suc s zero = refl
-      counting-suc s (suc n) = let e : suc s ≡ s + 1 = omega arith in ap₂ (λ k l. k ∷ l) e (counting-suc (s + 1) n)
+      counting_suc : (s n : ℕ) → map suc (range_with_len s n) ≡ range_with_len (s + 1) n
+      counting_suc s zero = refl
+      counting_suc s (suc n) = let e : suc s ≡ s + 1 = omega arith in ap₂ (λ k l. k ∷ l) e (counting_suc (s + 1) n)
 
       map_same : (f g : X → ℕ) (ys : List X) → All (λ y. f y ≡ g y) ys → map f ys ≡ map g ys
       map_same f g [] h = refl
@@ -89,7 +89,7 @@ all_led P (suc k) ws f =
 ordered_led : (k : ℕ) (ws : List (List ℕ)) → Ordered before ws → Ordered before (led_below k ws)
 ordered_led zero ws o = tt
 ordered_led (suc k) ws o =
-    ordered-append before (led_below k ws) (map (λ w. k ∷ w) ws) (ordered_led k ws o) (ordered_led_by k ws o)
+    ordered_append before (led_below k ws) (map (λ w. k ∷ w) ws) (ordered_led k ws o) (ordered_led_by k ws o)
     (all_led (λ w. All (Behind before w) (map (λ v. k ∷ v) ws)) k ws
     (λ c w h. All-map (Behind before (c ∷ w)) (λ v. k ∷ v) ws
     (all_of (λ v. Behind before (c ∷ w) (k ∷ v)) (λ v. (before_less c k w v h, before_more k c v w h)) ws)))
@@ -106,12 +106,12 @@ like_size m x y h k = ap length ((count_listing m).one_class x y h k)
 
 pub ranks_in_order : (m : ℕ) (x : List ℕ) → Recording m x → map (rank m) (count_class m x) ≡ range_with_len 0 (class_size m x)
 ranks_in_order m x h =
-    map-like (count_class m x) ((count_listing m).none_else x h)
-    ∙ places before (count_class m x) (ordered-kept before (same_counts m x) (words m (length x)) (ordered_words m (length x)))
+    map_like (count_class m x) ((count_listing m).none_else x h)
+    ∙ places before (count_class m x) (ordered_kept before (same_counts m x) (words m (length x)) (ordered_words m (length x)))
   where
-    map-like : (ws : List (List ℕ)) → All (CountLike m x) ws → map (rank m) ws ≡ map (λ y. tally (λ z. before z y) (count_class m x)) ws
-    map-like [] a = refl
-    map-like (w ∷ ws) a = ap₂ ◌∷◌ (ap (tally (λ z. before z w)) ((count_listing m).one_class x w h a.0)) (map-like ws a.1)
+    map_like : (ws : List (List ℕ)) → All (CountLike m x) ws → map (rank m) ws ≡ map (λ y. tally (λ z. before z y) (count_class m x)) ws
+    map_like [] a = refl
+    map_like (w ∷ ws) a = ap₂ ◌∷◌ (ap (tally (λ z. before z w)) ((count_listing m).one_class x w h a.0)) (map_like ws a.1)
 
 all_times : (P : List ℕ → Type 0) (z : List ℕ) (ws : List (List ℕ)) → All P ws → 0 < times z ws → P z
 all_times P z [] a h = absurd (omega arith)

@@ -8,7 +8,7 @@ use Rattle.std.proofs.lemmas.Bool.Decides.{nat_tests}
 use Rattle.classes.specs.Counting.{one_if, tally}
 use Rattle.classes.specs.Recordings.{count}
 use Rattle.classes.specs.Classes.{led_below, words, same_counts}
-use Rattle.classes.proofs.Counts.{add-up-append, add-up-map, length-kept}
+use Rattle.classes.proofs.Counts.{add_up_append, add_up_map, length_kept}
 use Rattle.ranking.specs.Ranks.{before, rank, class_size}
 use Rattle.ranking.specs.RanksInOrder.{before_less, before_same, before_more}
 
@@ -47,13 +47,13 @@ sum_peak f g d (suc m) h lo hi =
 -- TALLIES
 
 module _ {X : Type 0} where
-  pub tally-same : (p q : X → Bool) → ((x : X) → p x ≡ q x) → (xs : List X) → tally p xs ≡ tally q xs
-  tally-same p q e [] = refl
-  tally-same p q e (x ∷ xs) = ap₂ (λ b n. one_if b + n) (e x) (tally-same p q e xs)
+  pub tally_same : (p q : X → Bool) → ((x : X) → p x ≡ q x) → (xs : List X) → tally p xs ≡ tally q xs
+  tally_same p q e [] = refl
+  tally_same p q e (x ∷ xs) = ap₂ (λ b n. one_if b + n) (e x) (tally_same p q e xs)
 
-  pub tally-none : (p : X → Bool) → ((x : X) → p x ≡ false) → (xs : List X) → tally p xs ≡ 0
-  tally-none p e [] = refl
-  tally-none p e (x ∷ xs) = ap₂ (λ b n. one_if b + n) (e x) (tally-none p e xs)
+  pub tally_none : (p : X → Bool) → ((x : X) → p x ≡ false) → (xs : List X) → tally p xs ≡ 0
+  tally_none p e [] = refl
+  tally_none p e (x ∷ xs) = ap₂ (λ b n. one_if b + n) (e x) (tally_none p e xs)
 
   -- those that pass q among those that passed p
   tally_kept : (p q : X → Bool) (xs : List X) → tally q (filter p xs) ≡ tally (λ x. p x && q x) xs
@@ -64,9 +64,9 @@ module _ {X : Type 0} where
       at ih true = ap (λ n. one_if (q x) + n) ih
       at ih false = omega arith
 
-  pub tally-under : (p q : X → Bool) (xs : List X) → tally (λ x. p x && q x) xs ≤ tally p xs
-  tally-under p q [] = omega arith
-  tally-under p q (x ∷ xs) = omega (arith, each (p x) (q x), tally-under p q xs)
+  pub tally_under : (p q : X → Bool) (xs : List X) → tally (λ x. p x && q x) xs ≤ tally p xs
+  tally_under p q [] = omega arith
+  tally_under p q (x ∷ xs) = omega (arith, each (p x) (q x), tally_under p q xs)
     where
       each : (a b : Bool) → one_if (a && b) ≤ one_if a
       each true true = omega arith
@@ -76,19 +76,19 @@ module _ {X : Type 0} where
 pub tally_led : (p : List ℕ → Bool) (m : ℕ) (ws : List (List ℕ)) → tally p (led_below m ws) ≡ sum_below m (λ c. tally (λ w. p (c ∷ w)) ws)
 tally_led p zero ws = refl
 tally_led p (suc m) ws =
-    add-up-append (λ w. one_if (p w)) (led_below m ws) (map (λ w. m ∷ w) ws)
-    ∙ ap₂ ◌+◌ (tally_led p m ws) (add-up-map (λ w. one_if (p w)) (λ w. m ∷ w) ws)
+    add_up_append (λ w. one_if (p w)) (led_below m ws) (map (λ w. m ∷ w) ws)
+    ∙ ap₂ ◌+◌ (tally_led p m ws) (add_up_map (λ w. one_if (p w)) (λ w. m ∷ w) ws)
 
 -- SIZE AND RANK AS TALLIES OF ALL WORDS
 
 pub size_tally : (m : ℕ) (x : List ℕ) → class_size m x ≡ tally (same_counts m x) (words m (length x))
-size_tally m x = length-kept (same_counts m x) (words m (length x))
+size_tally m x = length_kept (same_counts m x) (words m (length x))
 
 rank_tally : (m : ℕ) (x : List ℕ) → rank m x ≡ tally (λ y. same_counts m x y && before y x) (words m (length x))
 rank_tally m x = tally_kept (same_counts m x) (λ y. before y x) (words m (length x))
 
 pub rank_le_size : (m : ℕ) (x : List ℕ) → rank m x ≤ class_size m x
-rank_le_size m x = omega (arith, rank_tally m x, size_tally m x, tally-under (same_counts m x) (λ y. before y x) (words m (length x)))
+rank_le_size m x = omega (arith, rank_tally m x, size_tally m x, tally_under (same_counts m x) (λ y. before y x) (words m (length x)))
 
 -- ONE CODE MORE IN FRONT
 
@@ -107,10 +107,10 @@ pub rank_step : (m d : ℕ) (x : List ℕ) → d < m → rank m (d ∷ x) ≡ su
 rank_step m d x h =
     rank_tally m (d ∷ x) ∙ tally_led p m (words m (length x))
     ∙ sum_peak (λ c. tally (λ l. p (c ∷ l)) (words m (length x))) (begins m (d ∷ x) (length x)) d m h
-    (λ c k. tally-same _ _ (λ l. ap (λ b. same_counts m (d ∷ x) (c ∷ l) && b) (before_less c d l x k) ∙ and-true _) (words m (length x)))
-    (λ c k. tally-none _ (λ l. ap (λ b. same_counts m (d ∷ x) (c ∷ l) && b) (before_more c d l x k) ∙ and-false _) (words m (length x)))
+    (λ c k. tally_same _ _ (λ l. ap (λ b. same_counts m (d ∷ x) (c ∷ l) && b) (before_less c d l x k) ∙ and-true _) (words m (length x)))
+    (λ c k. tally_none _ (λ l. ap (λ b. same_counts m (d ∷ x) (c ∷ l) && b) (before_more c d l x k) ∙ and-false _) (words m (length x)))
     ∙ ap (λ k. sum_below d (begins m (d ∷ x) (length x)) + k)
-    (tally-same _ _ (λ l. ap₂ ◌&&◌ (same_step m d x l) (before_same d l x)) (words m (length x)) ∙ sym (rank_tally m x))
+    (tally_same _ _ (λ l. ap₂ ◌&&◌ (same_step m d x l) (before_same d l x)) (words m (length x)) ∙ sym (rank_tally m x))
   where
     p : List ℕ → Bool
     p y = same_counts m (d ∷ x) y && before y (d ∷ x)

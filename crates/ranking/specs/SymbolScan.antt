@@ -9,10 +9,10 @@ use Rattle.std.proofs.lemmas.Bool.{cases_lt, cases_eq, eq-eqb, ne_eqb}
 use Rattle.classes.specs.Counting.{one_if, tally}
 use Rattle.classes.specs.Recordings.{Codes, count}
 use Rattle.classes.specs.Classes.{words, same_counts}
-use Rattle.classes.proofs.Counts.{tally-le-length}
+use Rattle.classes.proofs.Counts.{tally_le_length}
 use Rattle.ranking.specs.Factorials.{factorial, count_factorial, Multinomial}
 use Rattle.ranking.specs.Ranks.{before, rank, class_size}
-use Rattle.ranking.specs.Scans.{sum_below, sum_same, sum_mul, mul_sum, sum_mono, tally-same, size_tally, rank_le_size, same_step, begins, rank_step}
+use Rattle.ranking.specs.Scans.{sum_below, sum_same, sum_mul, mul_sum, sum_mono, tally_same, size_tally, rank_le_size, same_step, begins, rank_step}
 use Rattle.ranking.specs.Arrangements.{multinomial, begin_with, arrangements_under, arrangements_fit, factorial_mono}
 
 -- COUNTS OF A BLOCK
@@ -51,28 +51,28 @@ module _ (m d : ℕ) (x : List ℕ) (b : d < m) (codes : Codes m x) where
   total : sum_below m (λ c. count c (d ∷ x)) ≡ suc (length x)
   total = total_count m (d ∷ x) (b, codes)
 
-  begins-mul : (c : ℕ) → c < m → class_size m (d ∷ x) * count c (d ∷ x) ≡ begins m (d ∷ x) (length x) c * suc (length x)
-  begins-mul c h = ap (λ k. k * count c (d ∷ x)) (size_tally m (d ∷ x)) ∙ begin_with m (length x) c (λ e. count e (d ∷ x)) total h
+  begins_mul : (c : ℕ) → c < m → class_size m (d ∷ x) * count c (d ∷ x) ≡ begins m (d ∷ x) (length x) c * suc (length x)
+  begins_mul c h = ap (λ k. k * count c (d ∷ x)) (size_tally m (d ∷ x)) ∙ begin_with m (length x) c (λ e. count e (d ∷ x)) total h
 
-  begins-self : begins m (d ∷ x) (length x) d ≡ class_size m x
-  begins-self = tally-same _ _ (λ l. same_step m d x l) (words m (length x)) ∙ sym (size_tally m x)
+  begins_self : begins m (d ∷ x) (length x) d ≡ class_size m x
+  begins_self = tally_same _ _ (λ l. same_step m d x l) (words m (length x)) ∙ sym (size_tally m x)
 
   own : 0 < count d (d ∷ x)
   own = omega (arith, ap one_if (eq-eqb d d refl))
 
-  size-turn : class_size m x * suc (length x) / count d (d ∷ x) ≡ class_size m (d ∷ x)
-  size-turn =
-      ap (λ k. k / count d (d ∷ x)) (ap (λ k. k * suc (length x)) (sym begins-self) ∙ sym (begins-mul d b)) ∙ mul-div_cancel (class_size m (d ∷ x)) own
+  size_turn : class_size m x * suc (length x) / count d (d ∷ x) ≡ class_size m (d ∷ x)
+  size_turn =
+      ap (λ k. k / count d (d ∷ x)) (ap (λ k. k * suc (length x)) (sym begins_self) ∙ sym (begins_mul d b)) ∙ mul-div_cancel (class_size m (d ∷ x)) own
 
-  below-mul : class_size m (d ∷ x) * below d x ≡ sum_below d (begins m (d ∷ x) (length x)) * suc (length x)
-  below-mul =
+  below_mul : class_size m (d ∷ x) * below d x ≡ sum_below d (begins m (d ∷ x) (length x)) * suc (length x)
+  below_mul =
       mul_sum (λ c. count c (d ∷ x)) (class_size m (d ∷ x)) d
-      ∙ sum_same (λ c. class_size m (d ∷ x) * count c (d ∷ x)) (λ c. begins m (d ∷ x) (length x) c * suc (length x)) d (λ c h. begins-mul c (omega arith))
+      ∙ sum_same (λ c. class_size m (d ∷ x) * count c (d ∷ x)) (λ c. begins m (d ∷ x) (length x) c * suc (length x)) d (λ c h. begins_mul c (omega arith))
       ∙ sym (sum_mul (begins m (d ∷ x) (length x)) (suc (length x)) d)
 
-  rank-turn : class_size m (d ∷ x) * below d x / suc (length x) + rank m x ≡ rank m (d ∷ x)
-  rank-turn =
-      ap (λ k. k + rank m x) (ap (λ k. k / suc (length x)) below-mul ∙ mul-div_cancel (sum_below d (begins m (d ∷ x) (length x))) (omega arith))
+  rank_turn : class_size m (d ∷ x) * below d x / suc (length x) + rank m x ≡ rank m (d ∷ x)
+  rank_turn =
+      ap (λ k. k + rank m x) (ap (λ k. k / suc (length x)) below_mul ∙ mul-div_cancel (sum_below d (begins m (d ∷ x) (length x))) (omega arith))
       ∙ sym (rank_step m d x b)
 
   -- what the machine's numbers hold
@@ -81,8 +81,8 @@ module _ (m d : ℕ) (x : List ℕ) (b : d < m) (codes : Codes m x) where
       let under : class_size m x ≤ factorial (length x) = omega (arith, size_tally m x, arrangements_under m (length x) (λ c. count c x) (total_count m x codes)) in
       omega (arith, mul-le-mul_right (suc (length x)) under, mul_comm (factorial (length x)) (suc (length x)), factorial_mono (suc (length x)) 20 h)
 
-  below-fits : m ≤ 16 → suc (length x) ≤ 20 → class_size m (d ∷ x) * below d x < 2 ^ 64
-  below-fits few h =
+  below_fits : m ≤ 16 → suc (length x) ≤ 20 → class_size m (d ∷ x) * below d x < 2 ^ 64
+  below_fits few h =
       let least : below d x ≤ suc (length x) = omega (arith, sum_mono (λ c. count c (d ∷ x)) d m (omega arith), total) in
       let wide : class_size m (d ∷ x) * suc (length x) < 2 ^ 64 =
       subst (λ k. k * suc (length x) < 2 ^ 64) (sym (size_tally m (d ∷ x))) (arrangements_fit m (suc (length x)) (λ c. count c (d ∷ x)) few h total) in
@@ -119,26 +119,26 @@ module _ (m d : ℕ) (x cs : List ℕ) (size rest : ℕ) (b : d < m) (codes : Co
   next : rest + 1 ≡ suc (length x)
   next = omega arith
 
-  pub turn-counts : (c : ℕ) → c < length cs → slice_index (slice_set cs d (slice_index cs d + 1)) c ≡ count c (d ∷ x)
-  turn-counts = counted cs x d (omega arith) inv
+  pub turn_counts : (c : ℕ) → c < length cs → slice_index (slice_set cs d (slice_index cs d + 1)) c ≡ count c (d ∷ x)
+  turn_counts = counted cs x d (omega arith) inv
 
-  pub turn-size-fits : size * (rest + 1) ≤ 2432902008176640000
-  turn-size-fits = subst (λ k. k ≤ 2432902008176640000) (sym (ap₂ ◌*◌ es next)) (size_fits m d x b codes short)
+  pub turn_size_fits : size * (rest + 1) ≤ 2432902008176640000
+  turn_size_fits = subst (λ k. k ≤ 2432902008176640000) (sym (ap₂ ◌*◌ es next)) (size_fits m d x b codes short)
 
-  pub turn-size : size * (rest + 1) / (slice_index cs d + 1) ≡ class_size m (d ∷ x)
-  turn-size = ap₂ ◌/◌ (ap₂ ◌*◌ es next) own_is ∙ size-turn m d x b codes
+  pub turn_size : size * (rest + 1) / (slice_index cs d + 1) ≡ class_size m (d ∷ x)
+  turn_size = ap₂ ◌/◌ (ap₂ ◌*◌ es next) own_is ∙ size_turn m d x b codes
 
   turn_below : length (slice_set cs d (slice_index cs d + 1)) ≡ 16 → sum (take d (slice_set cs d (slice_index cs d + 1))) ≡ below d x
-  turn_below l = sum_front (slice_set cs d (slice_index cs d + 1)) (λ c. count c (d ∷ x)) d (omega arith) (λ c h. turn-counts c (omega arith))
+  turn_below l = sum_front (slice_set cs d (slice_index cs d + 1)) (λ c. count c (d ∷ x)) d (omega arith) (λ c h. turn_counts c (omega arith))
 
-  pub turn-rank-fits : length (slice_set cs d (slice_index cs d + 1)) ≡ 16 → class_size m (d ∷ x) * sum (take d (slice_set cs d (slice_index cs d + 1))) < 2 ^ 64
-  turn-rank-fits l = subst (λ k. class_size m (d ∷ x) * k < 2 ^ 64) (sym (turn_below l)) (below-fits m d x b codes few short)
+  pub turn_rank_fits : length (slice_set cs d (slice_index cs d + 1)) ≡ 16 → class_size m (d ∷ x) * sum (take d (slice_set cs d (slice_index cs d + 1))) < 2 ^ 64
+  turn_rank_fits l = subst (λ k. class_size m (d ∷ x) * k < 2 ^ 64) (sym (turn_below l)) (below_fits m d x b codes few short)
 
-  pub turn-rank : length (slice_set cs d (slice_index cs d + 1)) ≡ 16 → class_size m (d ∷ x) * sum (take d (slice_set cs d (slice_index cs d + 1))) / (rest + 1) + rank m x ≡ rank m (d ∷ x)
-  turn-rank l = ap₂ (λ k n. class_size m (d ∷ x) * k / n + rank m x) (turn_below l) next ∙ rank-turn m d x b codes
+  pub turn_rank : length (slice_set cs d (slice_index cs d + 1)) ≡ 16 → class_size m (d ∷ x) * sum (take d (slice_set cs d (slice_index cs d + 1))) / (rest + 1) + rank m x ≡ rank m (d ∷ x)
+  turn_rank l = ap₂ (λ k n. class_size m (d ∷ x) * k / n + rank m x) (turn_below l) next ∙ rank_turn m d x b codes
 
-  pub turn-fits : rank m (d ∷ x) ≤ 2432902008176640000
-  turn-fits = rank_fits m d x b codes short
+  pub turn_fits : rank m (d ∷ x) ≤ 2432902008176640000
+  turn_fits = rank_fits m d x b codes short
 
 -- what a turn at place i - 1 of a block s finds and leaves
 pub record Turn (m : ℕ) (s : List ℕ) (i d : ℕ) (cs next : List ℕ) (size rest rk : ℕ) : Type 0 where
@@ -172,23 +172,23 @@ turn m s i cs size rest rk few most codes lo hi inv =
     let inside : d < length cs = omega (arith, inv.0) in
     let wide : length next ≡ 16 = length-set cs d (slice_index cs d + 1) ∙ inv.0 in
     let here = inv.1 d inside in
-    let size_is = turn-size m d x cs size rest b tail few inv.0 short inv.1 inv.3 inv.4 in
-    let rank_is = turn-rank m d x cs size rest b tail few inv.0 short inv.1 inv.3 inv.4 wide in
+    let size_is = turn_size m d x cs size rest b tail few inv.0 short inv.1 inv.3 inv.4 in
+    let rank_is = turn_rank m d x cs size rest b tail few inv.0 short inv.1 inv.3 inv.4 wide in
     record {
       code = omega (arith, inv.0);
-      own = omega (arith, tally-le-length (λ b. nat_eq b d) x);
+      own = omega (arith, tally_le_length (λ b. nat_eq b d) x);
       short = omega (arith, inv.3);
-      product = omega (arith, turn-size-fits m d x cs size rest b tail few inv.0 short inv.1 inv.3 inv.4);
+      product = omega (arith, turn_size_fits m d x cs size rest b tail few inv.0 short inv.1 inv.3 inv.4);
       wide = wide;
-      counts = λ c h. turn-counts m d x cs size rest b tail few inv.0 short inv.1 inv.3 inv.4 c (omega arith) ∙ ap (count c) (sym e);
+      counts = λ c h. turn_counts m d x cs size rest b tail few inv.0 short inv.1 inv.3 inv.4 c (omega arith) ∙ ap (count c) (sym e);
       sum_is = omega (arith, sum_by-set (λ (k : ℕ). k) cs d (slice_index cs d + 1) 0 inside, inv.2);
       rest_is = omega (arith, inv.3, ap length e);
       size_is = size_is ∙ ap (class_size m) (sym e);
-      smaller = subst (λ k. k * sum (take d next) < 2 ^ 64) (sym size_is) (turn-rank-fits m d x cs size rest b tail few inv.0 short inv.1 inv.3 inv.4 wide);
+      smaller = subst (λ k. k * sum (take d next) < 2 ^ 64) (sym size_is) (turn_rank_fits m d x cs size rest b tail few inv.0 short inv.1 inv.3 inv.4 wide);
       rank_is =
           ap₂ (λ k r. r + k * sum (take d next) / (rest + 1)) size_is inv.5
           ∙ add_comm (rank m x) (class_size m (d ∷ x) * sum (take d next) / (rest + 1)) ∙ rank_is ∙ ap (rank m) (sym e);
-      rank_fits = omega (arith, ap (rank m) e, turn-fits m d x cs size rest b tail few inv.0 short inv.1 inv.3 inv.4);
+      rank_fits = omega (arith, ap (rank m) e, turn_fits m d x cs size rest b tail few inv.0 short inv.1 inv.3 inv.4);
     }
 
 -- THE EMPTY BLOCK

@@ -1,78 +1,39 @@
--- Prefixes, nodes and levels as the loops meet them: the nodes of a level code by code, a level node by node, and the room that they take. Assumes nothing.
-use Rattle.std.proofs.Common.{◌≡◌, ℕ, zero, suc, ◌+◌, ◌-◌, ◌*◌, ◌/◌, ◌%◌, ◌^◌, ◌<◌, ◌≤◌, Bool, true, false, cond, eqb, ltb, List, [], ◌∷◌, map, length, get_or, take, drop, set, Ok, Err, filter, Result, sym, refl, ap, ◌∙◌, subst, mul-le-mul_right, suc-mul, arith, length-take, pow_mono, shl_exact, shr_lt}
+-- Nodes and levels as the loops meet them: a node code by code, a level node by node, and the room that they take. Assumes nothing.
+use Rattle.std.proofs.Common.{◌≡◌, ℕ, zero, suc, ◌+◌, ◌-◌, ◌*◌, ◌/◌, ◌%◌, ◌^◌, ◌<◌, ◌≤◌, Bool, true, false, cond, eqb, ltb, List, [], ◌∷◌, ◌++◌, map, length, get_or, take, drop, Ok, Err, filter, Result, sym, refl, ap, ◌∙◌, subst, append_assoc, append-nil, mul-le-mul_right, suc-mul, arith, length-take}
 use borrow.Rule.Slice.PartMut.{put_mid}
-use Rattle.std.proofs.ByRecursion.{All-get_or, All-map}
-use Rattle.std.proofs.lemmas.List.{drop_more}
+use Rattle.std.proofs.ByRecursion.{All-map}
+use Rattle.std.proofs.lemmas.List.{drop_more, drop_all}
 use Rattle.std.proofs.lemmas.Bool.{cond-true, cond-false, eq-eqb, ne_eqb}
 use Rattle.std.proofs.lemmas.Bool.Decides.{nat_tests}
 use Rattle.classes.specs.Recordings.{Codes, Recording}
 use Rattle.classes.proofs.Counts.{all_of}
 use Rattle.extractors.specs.declared.fault.ExtractorFault.{ExtractorFault}
+use Rattle.extractors.specs.declared.fault.ExtractorFault.TheVariants.{Memory}
 use Rattle.extractors.specs.Calls.{Extracted, Filled, Written}
 use Rattle.extractors.specs.Bits.{gather}
-use Rattle.extractors.specs.Rows.{Filed}
 use Rattle.extractors.proofs.Judging.{unrefused, memory_only}
-use Rattle.extractors.proofs.Rows.{rows_apart, Filing, file-place, file-one}
 use Rattle.extractors.proofs.Writing.{join, yield_fits}
 use Rattle.split.specs.SplitRule.{prefix, next_bit, node}
 
--- PREFIXES
+-- A NODE, CODE BY CODE
 
--- two codes or more take some bits
-pub some_bits : (m w : ℕ) → 2 ≤ m → m ≤ 2 ^ w → 0 < w
-some_bits m zero h k = absurd (omega arith)
-some_bits m (suc w) h k = omega arith
-
--- a code in w bits has a prefix in d bits
-prefix_below : (w d c : ℕ) → d ≤ w → c < 2 ^ w → prefix w d c < 2 ^ d
-prefix_below w d c h l = let e : w ≡ d + (w - d) = omega arith in shr_lt d (w - d) (subst (λ v. c < 2 ^ v) e l)
-
--- a level has at most eight prefixes
-pub few_prefixes : (w d : ℕ) → d < w → w ≤ 4 → 2 ^ d ≤ 8
-few_prefixes w d h k = let l : d ≤ 3 = omega arith in pow_mono l
-
--- rows for the longest prefixes are enough for any level
-pub rows_room : (d w n room : ℕ) → d < w → w ≤ 4 → room ≡ (1 * 2 ^ (w - 1)) % 2 ^ 64 * n → 2 ^ d * n ≤ room
-rows_room d w n room h k e =
-    let deepest : d ≤ w - 1 = omega arith in
-    let most : 2 ^ d ≤ 2 ^ (w - 1) = pow_mono deepest in
-    let one : 1 < 2 ^ 1 = omega arith in
-    let fits : 1 + (w - 1) ≤ 64 = omega arith in
-    let le : 2 ^ d ≤ (1 * 2 ^ (w - 1)) % 2 ^ 64 = omega (arith, shl_exact 1 (w - 1) 64 one fits) in
-    omega (arith, mul-le-mul_right n le)
-
--- THE NODES OF ONE LEVEL, CODE BY CODE
-
-module _ (w d : ℕ) (x : List ℕ) (i : ℕ) (h : i < length x) where
-  abbrev code : ℕ
-  code = get_or x i 0
-
-  node-here : node w d (prefix w d code) (drop i x) ≡ (code / 2 ^ (w - d - 1) % 2) ∷ node w d (prefix w d code) (drop (i + 1) x)
-  node-here =
-      let p = prefix w d code in
+-- the loop has made done of the first i codes
+module _ (w d p : ℕ) (x : List ℕ) (i : ℕ) (done : List ℕ) (so_far : node w d p x ≡ done ++ node w d p (drop i x)) where
+  pub node_here : i < length x → get_or x i 0 / 2 ^ (w - d) ≡ p → (done' : List ℕ) → done' ≡ done ++ ((get_or x i 0 / 2 ^ (w - d - 1) % 2) ∷ []) → node w d p x ≡ done' ++ node w d p (drop (i + 1) x)
+  node_here h e done' is =
+      let rest = node w d p (drop (i + 1) x) in
+      let y = get_or x i 0 / 2 ^ (w - d - 1) % 2 in
       let k : w - suc d ≡ w - d - 1 = omega arith in
-      ap (node w d p) (drop_more x i 0 h) ∙ ap (map (next_bit w d)) (cond-true _ _ _ (eq-eqb p p refl)) ∙ ap (λ j. (code / 2 ^ j % 2) ∷ node w d p (drop (i + 1) x)) k
+      let one : node w d p (drop i x) ≡ y ∷ rest =
+      ap (node w d p) (drop_more x i 0 h) ∙ ap (map (next_bit w d)) (cond-true _ _ _ (eq-eqb (prefix w d (get_or x i 0)) p e)) ∙ ap (λ j. (get_or x i 0 / 2 ^ j % 2) ∷ rest) k in
+      so_far ∙ ap (λ z. done ++ z) one ∙ sym (append_assoc done (y ∷ []) rest) ∙ ap (λ z. z ++ rest) (sym is)
 
-  node-other : (p : ℕ) → (p ≡ prefix w d code → ⊥) → node w d p (drop i x) ≡ node w d p (drop (i + 1) x)
-  node-other p ne = ap (node w d p) (drop_more x i 0 h) ∙ ap (map (next_bit w d)) (cond-false _ _ _ (ne_eqb (prefix w d code) p (λ e. ne (sym e))))
+  pub node_other : i < length x → (get_or x i 0 / 2 ^ (w - d) ≡ p → ⊥) → node w d p x ≡ done ++ node w d p (drop (i + 1) x)
+  node_other h e =
+      so_far ∙ ap (λ z. done ++ z) (ap (node w d p) (drop_more x i 0 h) ∙ ap (map (next_bit w d)) (cond-false _ _ _ (ne_eqb (prefix w d (get_or x i 0)) p e)))
 
-  module _ (lengths rows : List ℕ) (so_far : Filing (2 ^ d) (node w d) x i lengths rows) (deep : d < w) (codes : Codes (2 ^ w) x) where
-    abbrev lead : ℕ
-    lead = prefix w d code
-
-    abbrev held : ℕ
-    held = get_or lengths lead 0
-
-    -- where the next bit of the code at i goes
-    pub bit-place : (lead < 2 ^ d) × (held ≤ i) × (lead * length x + held < 2 ^ d * length x)
-    bit-place =
-        let hp : lead < 2 ^ d = prefix_below w d code (omega arith) (All-get_or (λ c. c < 2 ^ w) x i 0 h codes) in
-        let p = file-place (2 ^ d) (node w d) x i lengths rows so_far lead hp h in
-        (hp, p.0, p.1)
-
-    -- it is filed under its prefix
-    pub bit-filed : 2 ^ d ≤ length lengths → 2 ^ d * length x ≤ length rows → Filing (2 ^ d) (node w d) x (i + 1) (set lengths lead (held + 1)) (set rows (lead * length x + held) (code / 2 ^ (w - d - 1) % 2))
-    bit-filed = file-one (2 ^ d) (node w d) x i lengths rows so_far lead (code / 2 ^ (w - d - 1) % 2) bit-place.0 h node-here node-other
+  pub node_all : length x ≤ i → done ≡ node w d p x
+  node_all h = sym (so_far ∙ ap (λ z. done ++ z) (ap (node w d p) (drop_all i x h)) ∙ append-nil done)
 
 -- HOW MANY CODES THE NODES OF ONE LEVEL TAKE
 
@@ -125,24 +86,6 @@ node_recorded w d p x few =
       All-map (λ c. c < 2) (next_bit w d) own (all_of (λ c. next_bit w d c < 2) (λ c. omega arith) own),
       omega (arith, taken_le w d (suc p) x),
     )
-
--- A NODE IN ITS ROW
-
-pub record InRow (w d : ℕ) (x lengths rows : List ℕ) (p : ℕ) : Type 0 where
-  pub long : get_or lengths p 0 ≡ length (node w d p x)
-  pub is_node : take (p * length x + get_or lengths p 0 - p * length x) (drop (p * length x) rows) ≡ node w d p x
-  pub within : p * length x + get_or lengths p 0 ≤ length rows
-
--- the node that was filed under the prefix p
-pub node_in_row : (w d : ℕ) (x lengths rows : List ℕ) (p room : ℕ) → Filed (2 ^ d) (node w d) x lengths rows → 2 ^ d * length x ≤ room → length rows ≡ room → p < 2 ^ d → InRow w d x lengths rows p
-node_in_row w d x lengths rows p room filed fits same h =
-    let l : get_or lengths p 0 ≡ length (node w d p x) = (filed p h).0 in
-    let j : p * length x + get_or lengths p 0 - p * length x ≡ length (node w d p x) = omega arith in
-    record {
-      long = l;
-      is_node = ap (λ q. take q (drop (p * length x) rows)) j ∙ (filed p h).1;
-      within = omega (arith, taken_le w d (suc p) x, rows_apart p (2 ^ d) (length x) h);
-    }
 
 -- BITS PART BY PART
 

@@ -8,7 +8,7 @@ use Rattle.std.proofs.lemmas.Bool.Decides.{nat_tests}
 use Rattle.std.proofs.lemmas.Bool.{cases_eq, cases_lt, eqb-true, eqb-false, cond-true, cond-false, eq-eqb, ne_eqb}
 use Rattle.classes.specs.Counting.{one_if}
 use Rattle.classes.specs.Recordings.{Codes, Recording, count}
-use Rattle.classes.proofs.Counts.{all_of, tally-le-length}
+use Rattle.classes.proofs.Counts.{all_of, tally_le_length}
 
 abbrev pub halves : List ℕ → List ℕ
 halves x = map (λ c. c / 2) x
@@ -37,7 +37,7 @@ pub lows_recorded : (x : List ℕ) (p : ℕ) → length x ≤ 4096 → Recording
 lows_recorded x p few =
     let own = filter (λ c. nat_eq (c / 2) p) x in (
       All-map (λ c. c < 2) (λ c. c % 2) own (all_of (λ c. c % 2 < 2) (λ c. omega arith) own),
-      omega (arith, length_lows x p, tally-le-length (λ b. nat_eq b p) (halves x), length-map x (λ c. c / 2)),
+      omega (arith, length_lows x p, tally_le_length (λ b. nat_eq b p) (halves x), length-map x (λ c. c / 2)),
     )
 
 -- COUNTS

@@ -1,3 +1,4 @@
 pub mod SplitRule
+pub mod Scratch
 pub mod SplitEven
 pub mod Halving

@@ -32,14 +32,14 @@ module _ (n : ℕ) (g f : List ℕ → List Bool) (eg : Exchange n (CountLike n)
   abbrev part : List ℕ → List Bool → ℕ → List Bool
   part x t p = parts n (bits x) (drop (top x) t) p
 
-  abbrev halves-for : List ℕ → List Bool → List ℕ
-  halves-for x t = eg.put (halves x) (take (top x) t)
+  abbrev halves_for : List ℕ → List Bool → List ℕ
+  halves_for x t = eg.put (halves x) (take (top x) t)
 
-  abbrev lows-for : List ℕ → List Bool → ℕ → List ℕ
-  lows-for x t p = ef.put (lows x p) (part x t p)
+  abbrev lows_for : List ℕ → List Bool → ℕ → List ℕ
+  lows_for x t p = ef.put (lows x p) (part x t p)
 
-  abbrev put-for : List ℕ → List Bool → List ℕ
-  put-for x t = merge (halves-for x t) (lows-for x t)
+  abbrev put_for : List ℕ → List Bool → List ℕ
+  put_for x t = merge (halves_for x t) (lows_for x t)
 
   module _ (x : List ℕ) (t : List Bool) (r : Recording (2 * n) x) (fits : length t ≡ length (deeper x)) where
     rh : Recording n (halves x)
@@ -48,66 +48,66 @@ module _ (n : ℕ) (g f : List ℕ → List Bool) (eg : Exchange n (CountLike n)
     rl : (p : ℕ) → Recording 2 (lows x p)
     rl p = lows_recorded x p r.1
 
-    fits-top : length (take (top x) t) ≡ top x
-    fits-top = omega (arith, length-take (top x) t, length-append (g (halves x)) (gather n (bits x)))
+    fits_top : length (take (top x) t) ≡ top x
+    fits_top = omega (arith, length-take (top x) t, length-append (g (halves x)) (gather n (bits x)))
 
     fits_all : length (drop (top x) t) ≡ length (gather n (bits x))
     fits_all = omega (arith, length-drop (top x) t, length-append (g (halves x)) (gather n (bits x)))
 
-    fits-part : (p : ℕ) → length (part x t p) ≡ length (f (lows x p))
-    fits-part p = length_parts n (bits x) (drop (top x) t) fits_all p
+    fits_part : (p : ℕ) → length (part x t p) ≡ length (f (lows x p))
+    fits_part p = length_parts n (bits x) (drop (top x) t) fits_all p
 
-    like-top : CountLike n (halves x) (halves-for x t)
-    like-top = eg.like (halves x) (take (top x) t) rh fits-top
+    like_top : CountLike n (halves x) (halves_for x t)
+    like_top = eg.like (halves x) (take (top x) t) rh fits_top
 
-    like-part : (p : ℕ) → CountLike 2 (lows x p) (lows-for x t p)
-    like-part p = ef.like (lows x p) (part x t p) (rl p) (fits-part p)
+    like_part : (p : ℕ) → CountLike 2 (lows x p) (lows_for x t p)
+    like_part p = ef.like (lows x p) (part x t p) (rl p) (fits_part p)
 
-    halves-put : halves (put-for x t) ≡ halves-for x t
-    halves-put = halves_merge (halves-for x t) (lows-for x t) (λ q. (like-part q).0)
+    halves_put : halves (put_for x t) ≡ halves_for x t
+    halves_put = halves_merge (halves_for x t) (lows_for x t) (λ q. (like_part q).0)
 
-    lows-put : (q : ℕ) → lows (put-for x t) q ≡ lows-for x t q
-    lows-put q = lows_merge (halves-for x t) (lows-for x t) (λ p. (like-part p).0) (λ p. (like-part p).1 ∙ length_lows x p ∙ sym (like-top.2 p)) q
+    lows_put : (q : ℕ) → lows (put_for x t) q ≡ lows_for x t q
+    lows_put q = lows_merge (halves_for x t) (lows_for x t) (λ p. (like_part p).0) (λ p. (like_part p).1 ∙ length_lows x p ∙ sym (like_top.2 p)) q
 
-    counts-put : (c : ℕ) → count c (put-for x t) ≡ count c x
-    counts-put c = count_lows (put-for x t) c ∙ ap (count (c % 2)) (lows-put (c / 2)) ∙ (like-part (c / 2)).2 (c % 2) ∙ sym (count_lows x c)
+    counts_put : (c : ℕ) → count c (put_for x t) ≡ count c x
+    counts_put c = count_lows (put_for x t) c ∙ ap (count (c % 2)) (lows_put (c / 2)) ∙ (like_part (c / 2)).2 (c % 2) ∙ sym (count_lows x c)
 
-    like-put : CountLike (2 * n) x (put-for x t)
-    like-put = (
-      codes_kept (2 * n) x (put-for x t) r.0 counts-put,
-      sym (length-map (put-for x t) (λ c. c / 2)) ∙ ap length halves-put ∙ like-top.1 ∙ length-map x (λ c. c / 2),
-      counts-put,
+    like_put : CountLike (2 * n) x (put_for x t)
+    like_put = (
+      codes_kept (2 * n) x (put_for x t) r.0 counts_put,
+      sym (length-map (put_for x t) (λ c. c / 2)) ∙ ap length halves_put ∙ like_top.1 ∙ length-map x (λ c. c / 2),
+      counts_put,
     )
 
-    bits_put : (p : ℕ) → bits (put-for x t) p ≡ part x t p
-    bits_put p = ap f (lows-put p) ∙ ef.gives (lows x p) (part x t p) (rl p) (fits-part p)
+    bits_put : (p : ℕ) → bits (put_for x t) p ≡ part x t p
+    bits_put p = ap f (lows_put p) ∙ ef.gives (lows x p) (part x t p) (rl p) (fits_part p)
 
-    top-put : g (halves (put-for x t)) ≡ take (top x) t
-    top-put = ap g halves-put ∙ eg.gives (halves x) (take (top x) t) rh fits-top
+    top_put : g (halves (put_for x t)) ≡ take (top x) t
+    top_put = ap g halves_put ∙ eg.gives (halves x) (take (top x) t) rh fits_top
 
-    gives-put : deeper (put-for x t) ≡ t
-    gives-put =
-        ap₂ ◌++◌ top-put (gather_same n (bits (put-for x t)) (part x t) (λ p k. bits_put p) ∙ gather_parts n (bits x) (drop (top x) t) fits_all)
+    gives_put : deeper (put_for x t) ≡ t
+    gives_put =
+        ap₂ ◌++◌ top_put (gather_same n (bits (put_for x t)) (part x t) (λ p k. bits_put p) ∙ gather_parts n (bits x) (drop (top x) t) fits_all)
         ∙ take-append-drop (top x) t
 
-    undone-put : put-for (put-for x t) (deeper x) ≡ x
-    undone-put =
-        let z = put-for x t in
+    undone_put : put_for (put_for x t) (deeper x) ≡ x
+    undone_put =
+        let z = put_for x t in
         let u = gather n (bits x) in
-        let same-top : top z ≡ top x = ap length top-put ∙ fits-top in
+        let same-top : top z ≡ top x = ap length top_put ∙ fits_top in
         let fore : take (top z) (deeper x) ≡ g (halves x) = take_at (g (halves x)) u (top z) (sym same-top) in
         let back : drop (top z) (deeper x) ≡ u = drop_at (g (halves x)) u (top z) (sym same-top) in
-        let lengths : (p : ℕ) → length (bits z p) ≡ length (bits x p) = λ p. ap length (bits_put p) ∙ fits-part p in
+        let lengths : (p : ℕ) → length (bits z p) ≡ length (bits x p) = λ p. ap length (bits_put p) ∙ fits_part p in
         let fits-u : length u ≡ length (gather n (bits z)) = length_gather n (bits x) (bits z) (λ p. sym (lengths p)) in
         let old : (p : ℕ) → p < n → parts n (bits z) u p ≡ bits x p =
         gather_decides n (parts n (bits z) u) (bits x) (λ p. length_parts n (bits z) u fits-u p ∙ lengths p) (gather_parts n (bits z) u fits-u) in
-        ap (λ y. merge y (lows-for z (deeper x))) (ap₂ eg.put halves-put fore ∙ eg.undone (halves x) (take (top x) t) rh fits-top)
-        ∙ merge_same n (halves x) (lows-for z (deeper x)) (lows x) rh.0
-        (λ p k. ap₂ ef.put (lows-put p) (ap (λ v. parts n (bits z) v p) back ∙ old p k) ∙ ef.undone (lows x p) (part x t p) (rl p) (fits-part p))
+        ap (λ y. merge y (lows_for z (deeper x))) (ap₂ eg.put halves_put fore ∙ eg.undone (halves x) (take (top x) t) rh fits_top)
+        ∙ merge_same n (halves x) (lows_for z (deeper x)) (lows x) rh.0
+        (λ p k. ap₂ ef.put (lows_put p) (ap (λ v. parts n (bits z) v p) back ∙ old p k) ∙ ef.undone (lows x p) (part x t p) (rl p) (fits_part p))
         ∙ merge_lows n x r.0
 
-  deeper-exchange : Exchange (2 * n) (CountLike (2 * n)) deeper
-  deeper-exchange = record { put = put-for; like = like-put; gives = gives-put; undone = undone-put }
+  deeper_exchange : Exchange (2 * n) (CountLike (2 * n)) deeper
+  deeper_exchange = record { put = put_for; like = like_put; gives = gives_put; undone = undone_put }
 
 -- THE RULE, ONE BIT MORE AT THE END
 
@@ -181,7 +181,7 @@ split_exchange f e zero = record {
 }
 split_exchange f e (suc w) =
     subst (λ n. Exchange n (CountLike n) (split (suc w) f)) (sym (pow-succ' 2 w))
-    (exchange_same (2 * 2 ^ w) (λ x. split w f (halves x) ++ gather (2 ^ w) (λ p. f (lows x p))) (split (suc w) f) (split_deeper f w) (deeper-exchange (2 ^ w) (split w f) f (split_exchange f e w) e))
+    (exchange_same (2 * 2 ^ w) (λ x. split w f (halves x) ++ gather (2 ^ w) (λ p. f (lows x p))) (split (suc w) f) (split_deeper f w) (deeper_exchange (2 ^ w) (split w f) f (split_exchange f e w) e))
 
 pub split_even : (m : ℕ) (f : List ℕ → List Bool) → Sized m → Even 2 f → Even m (split (width m) f)
 split_even m f sized even =

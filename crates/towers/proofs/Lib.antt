@@ -1,3 +1,4 @@
 pub mod Letters
+pub mod PilesOfLayers
 pub mod ByBase
 pub mod Worked

@@ -1,3 +1,3 @@
 pub mod Towers
+pub mod EveryPile
 pub mod Examples
-pub mod TowersEven

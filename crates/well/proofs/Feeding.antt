@@ -6,12 +6,11 @@ use Rattle.extractors.specs.Bits.{bytes}
 use Rattle.extractors.specs.Calls.{due}
 use Rattle.extractors.specs.Piles.{Pile, Lawful, bits}
 use Rattle.extractors.proofs.Writing.{length_bytes}
-use Rattle.ledger.specs.declared.fault.WellFault.{WellFault}
-use Rattle.ledger.specs.declared.fault.WellFault.TheVariants.{Poured, Full}
-use Rattle.ledger.specs.Lean.{flags, lean}
-use Rattle.ledger.specs.State.{State}
-use Rattle.ledger.specs.Steps.{Call, Call.feed, Outcome, Outcome.fed, Step, no_room, filled}
-use Rattle.ledger.proofs.Ways.{first_none}
+use Rattle.well.specs.declared.fault.WellFault.{WellFault}
+use Rattle.well.specs.declared.fault.WellFault.TheVariants.{Poured, Full}
+use Rattle.well.specs.Lean.{flags, lean}
+use Rattle.well.specs.State.{State}
+use Rattle.well.specs.Steps.{Call, Call.feed, Outcome, Outcome.fed, First, Step, no_room, filled}
 
 flags_bytes : (s : List Bool) → flags (bytes s) ≡ s
 flags_bytes [] = refl
@@ -37,10 +36,13 @@ module _ (s : State) (y : ℕ) (takes : no_room s y ≡ None) where
       ⊎_elim (λ l. absurd (some≢none (no_room s y) (Full y) (cond-false _ _ _ (le-ltb 16777216 (s.poured + y) room_poured) ∙ cond-true _ _ _ (lt-ltb 16640 (length s.queue + y) l)) takes)) (λ l. l)
       (cases_lt 16640 (length s.queue + y))
 
+first_none : {F : Type 0} (o : Option F) (R : F → Type 0) (A : Type 0) → o ≡ None → A → First o R A
+first_none o R A none a = subst (λ v. First v R A) (sym none) a
+
 -- the state after, by its parts
 pub filled_by : (s : State) (b q : List Bool) (y : ℕ) → q ≡ s.queue ++ b → y ≡ length b
-    → ◌≡◌ {A = State} (record { mark = s.mark; queue = q; poured = s.poured + y; loaded = s.loaded; voided = s.voided; spilled = s.spilled; out = s.out; draws = s.draws }) (filled s b)
-filled_by s b q y e h = ap₂ (λ u v. record { mark = s.mark; queue = u; poured = s.poured + v; loaded = s.loaded; voided = s.voided; spilled = s.spilled; out = s.out; draws = s.draws }) e h
+    → ◌≡◌ {A = State} (record { mark = s.mark; queue = q; poured = s.poured + y; loaded = s.loaded; out = s.out; draws = s.draws }) (filled s b)
+filled_by s b q y e h = ap₂ (λ u v. record { mark = s.mark; queue = u; poured = s.poured + v; loaded = s.loaded; out = s.out; draws = s.draws }) e h
 
 pub step_fed : (s : State) (p : Pile) → Lawful p → (m : ℕ) (x : List ℕ) (k : ℕ) → due m x k ≡ None
     → (y : ℕ) → y ≡ length (bits p m x) → no_room s y ≡ None → (z : ℤ) → z ≡ lean (bits p m x) → (s' : State) → s' ≡ filled s (bits p m x)

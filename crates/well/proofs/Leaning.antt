@@ -4,7 +4,7 @@ use Rattle.std.proofs.lemmas.List.{map_more}
 use Rattle.std.proofs.lemmas.List.Sums.{sum_by_push}
 use Rattle.std.proofs.lemmas.Int.{ints}
 use Rattle.std.proofs.lemmas.Bool.{eq-eqb, ne_eqb}
-use Rattle.ledger.specs.Lean.{flags, ones, zeros, lean}
+use Rattle.well.specs.Lean.{flags, ones, zeros, lean}
 
 pub flags_more : (tray : List ℕ) (i : ℕ) → i < length tray → flags (take (i + 1) tray) ≡ flags (take i tray) ++ eqb (get_or tray i 0) 1 ∷ []
 flags_more tray i h = map_more (λ byte. eqb byte 1) tray i 0 h

@@ -1,4 +1,5 @@
 pub mod Leaning
+pub mod Packs
 pub mod Shifts
 pub mod Holding
 pub mod Feeding

@@ -1,4 +1,8 @@
+pub mod Faults
 pub mod Trays
+pub mod Lean
+pub mod Packing
 pub mod Held
+pub mod State
 pub mod View
-pub mod Outcomes
+pub mod Steps

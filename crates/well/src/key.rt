@@ -1,6 +1,6 @@
 //! Bits packed into the bytes of a key, the first bit as the highest of byte 0.
 ghost use Rattle.std.specs.Prelude.{◌≡◌, ◌*◌, ◌≤◌, length};
-ghost use Rattle.ledger.specs.Packing.{value, packed};
+ghost use Rattle.well.specs.Packing.{value, packed};
 
 /// The byte that eight bits write, the first bit highest.
 pub(crate) fn pack_byte(bits: &[bool]) -> u8

@@ -1,4 +1,5 @@
 //! A store of fair bits: fed by extractors, drawn from by keys, with a slip for every draw.
+pub mod fault;
 mod key;
 mod queue;
 pub mod slip;

@@ -1,10 +1,10 @@
-//! The slip that a draw hands over with a key, and that a load or void takes back.
+//! The slip that a draw hands over with a key, and that a load takes back.
 ghost use Rattle.std.specs.Prelude.{◌≡◌};
 
-use ledger::fault::WellFault;
+use crate::fault::WellFault;
 
 /// The receipt of one draw. Only a draw makes a slip; it is neither copied nor let go:
-/// a load or void takes it, and it is not spent twice.
+/// a load takes it, and it is not spent twice.
 pub struct Slip {
     mark: u32,
     number: u32,

@@ -1,13 +1,12 @@
 //! Short runs of the well and its parts on figures worked out by hand.
+use crate::fault::WellFault;
 use crate::key::pack_byte;
 use crate::queue::{Queue, ROOM};
 use crate::slip::{Returned, Slip};
 use crate::store::Well;
 use crate::tray::Wipe;
-use extractors::fault::ExtractorFault;
+use extractors::fault::{ExtractorFault, Layer};
 use extractors::pairs::Pairs;
-use ledger::fault::WellFault;
-use ledger::report::Report;
 use std::alloc::Global;
 use std::test::Fail;
 
@@ -15,6 +14,18 @@ use std::test::Fail;
 fn first_bit_is_highest(rt: HostRuntime) {
     let bits = [false, true, true, false, false, false, true, true];
     assert_eq!(rt; pack_byte(&bits), 0x63);
+}
+
+#[test]
+fn faults_show_their_figures(rt: HostRuntime) {
+    let code = WellFault::Extractor(ExtractorFault::Code(7));
+    assert_eq!(rt; code.number(), 3);
+    assert_eq!(rt; code.layer(), Layer::Extractor);
+    assert_eq!(rt; code.place(), 7);
+    let full = WellFault::Full(9);
+    assert_eq!(rt; full.number(), 21);
+    assert_eq!(rt; full.layer(), Layer::Well);
+    assert_eq!(rt; full.place(), 9);
 }
 
 #[test]
@@ -97,17 +108,6 @@ fn refused(well: &mut Well, slip: Slip) -> Option<WellFault> {
     }
 }
 
-// The fault by which a void hands a slip back; None where it is taken.
-fn voided(well: &mut Well, slip: Slip) -> Option<WellFault> {
-    match well.void(slip) {
-        Ok(()) => None,
-        Err(Returned { slip, fault }) => {
-            let _ = slip.spend();
-            Some(fault)
-        }
-    }
-}
-
 #[test]
 fn a_key_is_dealt_and_loaded(rt: HostRuntime) -> Result<(), Fail> {
     let mut well = Well::new(rt.alloc(), 1)?;
@@ -125,18 +125,7 @@ fn a_key_is_dealt_and_loaded(rt: HostRuntime) -> Result<(), Fail> {
     settle(&mut well, slip)?;
     assert_eq!(rt; key, [0x63]);
     assert_eq!(rt; figures, (1, 1, 8));
-    assert_eq!(rt;
-        well.report(),
-        Report {
-            held: 1,
-            poured: 9,
-            loaded: 8,
-            voided: 0,
-            spilled: 0,
-            out: 0,
-            draws: 1,
-        }
-    );
+    assert_eq!(rt; (well.poured(), well.loaded(), well.held()), (9, 8, 1));
     Ok(())
 }
 
@@ -155,8 +144,7 @@ fn a_refused_feed_leaves_the_well(rt: HostRuntime) -> Result<(), Fail> {
         well.feed(rt.alloc(), &Pairs, 2, &[0, 1], &mut tray)?,
         (1, -1)
     );
-    let report = well.report();
-    assert_eq!(rt; (report.poured, report.held), (1, 1));
+    assert_eq!(rt; (well.poured(), well.held()), (1, 1));
     Ok(())
 }
 
@@ -200,7 +188,7 @@ fn slips_of_other_wells_are_handed_back(rt: HostRuntime) -> Result<(), Fail> {
 }
 
 #[test]
-fn a_full_well_is_spilled_and_filled_again(rt: HostRuntime) -> Result<(), Fail> {
+fn the_queue_has_an_end(rt: HostRuntime) -> Result<(), Fail> {
     let heap = rt.alloc();
     let mut well = Well::new(heap, 1)?;
     let recording = alternating(heap, 4096)?;
@@ -211,82 +199,11 @@ fn a_full_well_is_spilled_and_filled_again(rt: HostRuntime) -> Result<(), Fail> 
             (2048, -2048)
         );
     }
-    let rest = alternating(heap, 512)?;
-    assert_eq!(rt; well.feed(heap, &Pairs, 2, &rest, &mut tray)?, (256, -256));
-    assert_eq!(rt; well.held(), 16_640);
     assert_eq!(rt;
-        well.feed(heap, &Pairs, 2, &[1, 0], &mut tray),
-        Err(WellFault::Full(1))
+        well.feed(heap, &Pairs, 2, &recording, &mut tray),
+        Err(WellFault::Full(2048))
     );
-    assert_eq!(rt; well.spill(), 16_640);
-    assert_eq!(rt; well.spill(), 0);
-    assert_eq!(rt; well.feed(heap, &Pairs, 2, &[1, 0], &mut tray)?, (1, 1));
-    let report = well.report();
-    assert_eq!(rt;
-        (report.held, report.poured, report.spilled),
-        (1, 16_641, 16_640)
-    );
-    Ok(())
-}
-
-// A well of mark 1 with eight bits for each of two keys.
-fn two_keys_deep(heap: Global) -> Result<Well, Fail> {
-    let mut well = Well::new(heap, 1)?;
-    let mut tray = [0; 32];
-    well.feed(heap, &Pairs, 2, &alternating(heap, 32)?, &mut tray)?;
-    Ok(well)
-}
-
-#[test]
-fn a_voided_slip_is_not_loaded(rt: HostRuntime) -> Result<(), Fail> {
-    let mut well = two_keys_deep(rt.alloc())?;
-    let spoiled = well.draw(&mut [0; 1])?;
-    assert_eq!(rt; voided(&mut well, spoiled), None);
-    let good = well.draw(&mut [0; 1])?;
-    assert_eq!(rt; refused(&mut well, good), None);
-    assert_eq!(rt;
-        voided(&mut well, Slip::cut(2, 1, 8)),
-        Some(WellFault::Mark(2))
-    );
-    assert_eq!(rt;
-        voided(&mut well, Slip::cut(1, 2, 8)),
-        Some(WellFault::Excess(8))
-    );
-    assert_eq!(rt;
-        well.report(),
-        Report {
-            held: 0,
-            poured: 16,
-            loaded: 8,
-            voided: 8,
-            spilled: 0,
-            out: 0,
-            draws: 2,
-        }
-    );
-    Ok(())
-}
-
-// Of two wells of one mark each takes the other's slip where so many bits are out, and then refuses its own.
-#[test]
-fn wells_of_one_mark_take_slips_by_their_bits(rt: HostRuntime) -> Result<(), Fail> {
-    let mut well = two_keys_deep(rt.alloc())?;
-    let mut twin = two_keys_deep(rt.alloc())?;
-    let early = twin.draw(&mut [0; 1])?;
-    assert_eq!(rt; refused(&mut well, early), Some(WellFault::Excess(8)));
-    let own = well.draw(&mut [0; 1])?;
-    let strange = match twin.draw(&mut [0; 1]) {
-        Ok(slip) => refused(&mut well, slip),
-        Err(fault) => Some(fault),
-    };
-    let late = refused(&mut well, own);
-    assert_eq!(rt; (strange, late), (None, Some(WellFault::Excess(8))));
-    let report = well.report();
-    assert_eq!(rt;
-        (report.loaded, report.out, report.held, report.draws),
-        (8, 0, 8, 1)
-    );
-    assert_eq!(rt; twin.report().out, 16);
+    assert_eq!(rt; well.held(), 16384);
     Ok(())
 }
 
@@ -300,7 +217,7 @@ fn pouring_has_an_end(rt: HostRuntime) -> Result<(), Fail> {
         well.feed(heap, &Pairs, 2, &recording, &mut tray)?;
         empty(&mut well, &mut [0; 32])?;
     }
-    assert_eq!(rt; well.report().poured, 16_777_216);
+    assert_eq!(rt; well.poured(), 16_777_216);
     assert_eq!(rt;
         well.feed(heap, &Pairs, 2, &[0, 1], &mut tray),
         Err(WellFault::Poured(1))

@@ -5,15 +5,15 @@ ghost use Rattle.well.specs.Trays.{Zero};
 ghost use Rattle.well.specs.View.{state};
 ghost use Rattle.noise_file.specs.Entries.{body_in, symbols_in};
 ghost use Rattle.noise_file.specs.Feeds.{EntryFed, Fed, NumberFed, size_in};
-ghost use Rattle.kinds.specs.Letters.{code_in};
-ghost use Rattle.kinds.specs.Reading.{stray};
+ghost use Rattle.noise_file.specs.Letters.{code_in};
+ghost use Rattle.noise_file.specs.Reading.{stray};
 
 use super::NoiseFile;
 use crate::entry::{Body, Entry};
 use crate::fault::{EntryFault, FeedFault};
-use kinds::kind::{Coin, Die, Kind, Label, read_body};
-use ledger::fault::WellFault;
+use crate::kind::{Coin, Die, Kind, Label, read_body};
 use std::alloc::Global;
+use well::fault::WellFault;
 use well::store::Well;
 use well::tray::Wipe;
 

@@ -8,8 +8,8 @@ ghost use Rattle.noise_file.specs.Entries.{Answered};
 use super::NoiseFile;
 use crate::contents::{entries_of, key_length_of, numbered};
 use crate::entry::Entry;
+use crate::fault::FileFault;
 use crate::judge::judge;
-use kinds::fault::FileFault;
 
 impl NoiseFile {
     /// Opens a file, or answers the refusal that is due.

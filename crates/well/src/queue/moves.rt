@@ -1,8 +1,8 @@
 //! What moves bits through the queue: new bits enter at its end, a key takes the oldest.
 ghost use Rattle.std.specs.Prelude.{◌≡◌, ◌+◌, ◌-◌, ◌*◌, ◌≤◌, [], ◌++◌, length, take, drop, IfOk, vec_len, vec_capacity};
 ghost use Rattle.well.specs.Held.{held};
-ghost use Rattle.ledger.specs.Lean.{flags, lean};
-ghost use Rattle.ledger.specs.Packing.{packed, unpacked};
+ghost use Rattle.well.specs.Lean.{flags, lean};
+ghost use Rattle.well.specs.Packing.{packed, unpacked};
 
 use super::{Queue, ROOM};
 use crate::key::pack;
@@ -47,14 +47,6 @@ impl Queue {
         let next = self.start + 8 * key.len();
         pack(&self.bits.as_slice()[self.start..], key);
         self.start = next;
-    }
-
-    /// Lets all bits go; the room stays.
-    pub(crate) fn clear(&mut self)
-        ensures { held self.new ≡ [] }
-    {
-        self.bits.clear();
-        self.start = 0;
     }
 
     // Moves the held bits to the front, over those that are taken.

@@ -7,4 +7,4 @@ pub returns : goal.returns
 returns g c =
     let p = g.E.SymbolExtractor.pile c.args.extractor.now in
     let law = g.met.E.SymbolExtractor.lawful c.args.extractor.now in
-    record { counts = counts_even p law; own-class = own_class_even p law; answer = refl }
+    record { counts = counts_even p law; own_class = own_class_even p law; answer = refl }

@@ -1,7 +1,7 @@
 -- A turn passes two codes: equal ones write nothing, different ones one bit.
 use Rattle.std.proofs.Common.{◌≡◌, ◌+◌, ◌<◌, ◌≤◌, ltb, length, get_or, sym, ap, ◌∙◌, arith, le-ltb, lt-ltb}
 use Rattle.extractors.specs.Bits.{byte}
-use Rattle.extractors.proofs.Pairing.{write_same, write-other, write_all}
+use Rattle.extractors.proofs.Pairing.{write_same, write_other, write_all}
 use Rattle.extractors.proofs.pairs.write_pairs.Goals as goal
 use Rattle.extractors.proofs.pairs.write_pairs.Goals.{then-a-b, then-b-a, else-b-a, else-a-b}
 
@@ -17,7 +17,7 @@ loop-i-preserved c =
             | then-b-a w' ↦ w'.tray-is ∙ ap byte (sym (lt-ltb _ _ w'.if-b-a.true))
             | else-b-a w' ↦ w'.tray-is ∙ ap byte (sym (le-ltb _ _ w'.if-b-a.false))
           ] in
-          rw (w.tray-is, w.k-is) (write-other x c.args.tray.now i c.loop-i.k c.loop-i.tray h c.loop-i.invariant w.if-a-b.true (omega arith) w.if-b-a.tray bit)
+          rw (w.tray-is, w.k-is) (write_other x c.args.tray.now i c.loop-i.k c.loop-i.tray h c.loop-i.invariant w.if-a-b.true (omega arith) w.if-b-a.tray bit)
       | else-a-b w ↦ rw (w.tray-is, w.k-is) (write_same x c.args.tray.now i c.loop-i.k c.loop-i.tray h c.loop-i.invariant w.if-a-b.false)
     ]
 

@@ -2,20 +2,20 @@
 use Rattle.std.proofs.Common.{◌∙◌, arith}
 use Rattle.std.proofs.lemmas.Result.{err_from_is_err_and}
 use Rattle.noise_file.specs.Rules.{line_due}
-use Rattle.kinds.proofs.Firsts.{over_more}
-use Rattle.noise_file.proofs.Files.{contents-cut, contents-line, contents-none}
+use Rattle.noise_file.proofs.Firsts.{over_more}
+use Rattle.noise_file.proofs.Files.{contents_cut, contents_line, contents_none}
 use Rattle.noise_file.proofs.judge.judge_contents.Goals as goal
 
 pub returns-then-bytes-entries : goal.returns-then-bytes-entries
-returns-then-bytes-entries c = contents-cut c.args.bytes.now (omega arith)
+returns-then-bytes-entries c = contents_cut c.args.bytes.now (omega arith)
 
 pub returns-in-err-judge-line : goal.returns-in-err-judge-line
 returns-in-err-judge-line c =
     let p = err_from_is_err_and c.from-residual.result c.from-residual.ensures.1 in
-    rw (p.1, p.2) (contents-line c.args.bytes.now c.loop-i.i c.in-err-judge-line.field-0.0 (omega arith) c.loop-i.invariant c.in-err-judge-line.ensures (omega arith))
+    rw (p.1, p.2) (contents_line c.args.bytes.now c.loop-i.i c.in-err-judge-line.field-0.0 (omega arith) c.loop-i.invariant c.in-err-judge-line.ensures (omega arith))
 
 pub loop-i-preserved : goal.loop-i-preserved
 loop-i-preserved c = over_more (line_due c.args.bytes.now) c.loop-i.i c.loop-i.invariant ∙ c.in-ok-judge-line.ensures
 
 pub returns : goal.returns
-returns c = contents-none c.args.bytes.now c.loop-i.i (omega arith) c.loop-i.invariant (omega arith)
+returns c = contents_none c.args.bytes.now c.loop-i.i (omega arith) c.loop-i.invariant (omega arith)

@@ -1,6 +1,6 @@
 -- Each line so far is in order.
 use Rattle.std.proofs.Common.{◌≡◌, None}
-use Rattle.kinds.specs.First.{first_over}
+use Rattle.noise_file.specs.First.{first_over}
 use Rattle.noise_file.specs.Rules.{line_due}
 use Rattle.noise_file.proofs.judge.judge_contents.Given as goal
 

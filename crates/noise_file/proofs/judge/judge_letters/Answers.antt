@@ -2,17 +2,17 @@
 use Rattle.std.proofs.Common.{◌∙◌, arith}
 use Rattle.std.proofs.lemmas.Result.{err_from_is_err_and}
 use Rattle.noise_file.specs.Rules.{body_due}
-use Rattle.kinds.proofs.Firsts.{over_more}
-use Rattle.noise_file.proofs.Files.{letters-body, letters-none}
+use Rattle.noise_file.proofs.Firsts.{over_more}
+use Rattle.noise_file.proofs.Files.{letters_body, letters_none}
 use Rattle.noise_file.proofs.judge.judge_letters.Goals as goal
 
 pub returns-in-err-judge-body : goal.returns-in-err-judge-body
 returns-in-err-judge-body c =
     let p = err_from_is_err_and c.from-residual.result c.from-residual.ensures.1 in
-    rw (p.1, p.2) (letters-body c.args.bytes.now c.loop-i.i c.in-err-judge-body.field-0.0 c.loop-i.invariant c.in-err-judge-body.ensures (omega arith))
+    rw (p.1, p.2) (letters_body c.args.bytes.now c.loop-i.i c.in-err-judge-body.field-0.0 c.loop-i.invariant c.in-err-judge-body.ensures (omega arith))
 
 pub loop-i-preserved : goal.loop-i-preserved
 loop-i-preserved c = over_more (body_due c.args.bytes.now) c.loop-i.i c.loop-i.invariant ∙ c.in-ok-judge-body.ensures
 
 pub returns : goal.returns
-returns c = letters-none c.args.bytes.now c.loop-i.i c.loop-i.invariant (omega arith)
+returns c = letters_none c.args.bytes.now c.loop-i.i c.loop-i.invariant (omega arith)

@@ -1,6 +1,6 @@
 -- Each body so far is of its kind.
 use Rattle.std.proofs.Common.{◌≡◌, None}
-use Rattle.kinds.specs.First.{first_over}
+use Rattle.noise_file.specs.First.{first_over}
 use Rattle.noise_file.specs.Rules.{body_due}
 use Rattle.noise_file.proofs.judge.judge_letters.Given as goal
 

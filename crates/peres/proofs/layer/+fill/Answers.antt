@@ -3,7 +3,7 @@ use Rattle.std.proofs.Common.{◌≡◌, ◌+◌, ◌-◌, ◌≤◌, length, ta
 use Rattle.classes.specs.Recordings.{Recording}
 use Rattle.extractors.proofs.Writing.{length_put_mid}
 use Rattle.peres.specs.PeresRule.{peres}
-use Rattle.peres.proofs.Filling.{filled_empty, filled_below, u-recorded, v-recorded, room_for, filled-step}
+use Rattle.peres.proofs.Filling.{filled_empty, filled_below, u_recorded, v_recorded, room_for, filled_step}
 use Rattle.peres.proofs.layer.+fill.Goals as goal
 
 pub returns-then-is-empty : goal.returns-then-is-empty
@@ -35,7 +35,7 @@ fill-requires g t c κs within =
     let f = g.E.CoinExtractor.gives c.args.below.now in
     let r = room_for x c.requires.coins c.in-ok-parts.parts c.args.out.now c.take-apart.new.out c.in-ok-parts.ensures (c.args.depth - 1) f (g.met.E.CoinExtractor.even c.args.below.now) _ _ refl refl in
     let u : c.deref.result.now ≡ vec_items c.in-ok-parts.parts.differing = c.deref.ensures.value in
-    let coins = u-recorded x c.requires.coins c.in-ok-parts.parts c.args.out.now c.take-apart.new.out c.in-ok-parts.ensures in
+    let coins = u_recorded x c.requires.coins c.in-ok-parts.parts c.args.out.now c.take-apart.new.out c.in-ok-parts.ensures in
     (omega arith, (within, (subst (Recording 2) (sym u) coins, rw (length-take, length-drop) (omega (arith, r.0, c.len.ensures, c.deref.ensures.len, c.requires.room, c.take-apart.auto.out)))))
 
 pub overflow-add-at : goal.overflow-add-at
@@ -67,7 +67,7 @@ fill-requires-2 g t c κs within =
     let r = room_for x c.requires.coins c.in-ok-parts.parts c.args.out.now c.take-apart.new.out c.in-ok-parts.ensures (c.args.depth - 1) f (g.met.E.CoinExtractor.even c.args.below.now) c.in-ok-a.a _ (c.in-ok-a.ensures.0 ∙ ap (λ u. length (peres (c.args.depth - 1) (g.E.CoinExtractor.gives c.args.below.now) u)) c.deref.ensures.value) refl in
     let whole = length_put_mid c.in-ok-parts.parts.yielded (c.in-ok-parts.parts.yielded + c.len.result - c.in-ok-parts.parts.yielded) c.take-apart.new.out c.fill.new.out c.fill.auto.out in
     let v : c.deref-2.result.now ≡ vec_items c.in-ok-parts.parts.agreed = c.deref-2.ensures.value in
-    let coins = v-recorded x c.requires.coins c.in-ok-parts.parts c.args.out.now c.take-apart.new.out c.in-ok-parts.ensures in
+    let coins = v_recorded x c.requires.coins c.in-ok-parts.parts c.args.out.now c.take-apart.new.out c.in-ok-parts.ensures in
     (omega arith, (within, (subst (Recording 2) (sym v) coins, rw (length-take, length-drop) (omega (arith, r.1, c.len-2.ensures, c.deref-2.ensures.len, c.requires.room, c.take-apart.auto.out, whole)))))
 
 pub overflow-add-result : goal.overflow-add-result
@@ -80,6 +80,6 @@ overflow-add-result g t c =
 pub returns : goal.returns
 returns g t c =
     let parts = c.in-ok-parts.parts in
-    filled-step c.args.recording.now c.requires.coins parts c.args.out.now c.take-apart.new.out c.in-ok-parts.ensures c.args.depth (g.E.CoinExtractor.gives c.args.below.now) c.if-depth-eq0.false
+    filled_step c.args.recording.now c.requires.coins parts c.args.out.now c.take-apart.new.out c.in-ok-parts.ensures c.args.depth (g.E.CoinExtractor.gives c.args.below.now) c.if-depth-eq0.false
     c.deref.result.now c.deref-2.result.now c.fill.new.out c.fill-2.new.out c.in-ok-a.a c.in-ok-b.b _ _
     c.deref.ensures.value c.deref-2.ensures.value c.in-ok-a.ensures c.fill.auto.out c.in-ok-b.ensures c.fill-2.auto.out

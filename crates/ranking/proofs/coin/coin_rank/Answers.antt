@@ -3,7 +3,7 @@ use Rattle.std.proofs.Common.{◌≡◌, ◌+◌, ◌-◌, length, sym, ap, ◌�
 use Rattle.std.proofs.lemmas.List.{at_drop_all}
 use Rattle.ranking.specs.Binomials.{choose}
 use Rattle.ranking.specs.Ranks.{rank}
-use Rattle.ranking.specs.CoinScan.{coin_size, coin_rank_fits, turn_one, turn-zero}
+use Rattle.ranking.specs.CoinScan.{coin_size, coin_rank_fits, turn_one, turn_zero}
 use Rattle.ranking.proofs.coin.coin_rank.Goals.{then-coin-eq1, else-coin-eq1}
 use Rattle.ranking.proofs.coin.coin_rank.Goals as goal
 
@@ -32,7 +32,7 @@ loop-coin-preserved c =
           let n : c.loop-coin.rest - 1 ≡ length s - (i + 1) = omega arith in
           let e = ap₂ choose n c.loop-coin.invariant.1 in
           omega arith
-      | else-coin-eq1 w ↦ let k = turn-zero s i (omega arith) c.requires.coins w.if-coin-eq1.false in omega arith
+      | else-coin-eq1 w ↦ let k = turn_zero s i (omega arith) c.requires.coins w.if-coin-eq1.false in omega arith
     ]
 
 pub returns : goal.returns

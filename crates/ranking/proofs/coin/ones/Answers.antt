@@ -2,7 +2,7 @@
 use Rattle.std.proofs.Common.{arith}
 use Rattle.std.proofs.lemmas.List.{at_drop_all}
 use Rattle.classes.specs.Recordings.{count}
-use Rattle.ranking.specs.CoinScan.{turn_one, turn-zero}
+use Rattle.ranking.specs.CoinScan.{turn_one, turn_zero}
 use Rattle.ranking.proofs.coin.ones.Goals.{then-coin-eq1, else-coin-eq1}
 use Rattle.ranking.proofs.coin.ones.Goals as goal
 
@@ -12,7 +12,7 @@ loop-coin-preserved c =
     let i = c.loop-coin.coin-index in
     elim c.if-coin-eq1.branch [
       | then-coin-eq1 w ↦ let k = turn_one s i (omega arith) c.requires w.if-coin-eq1.true in omega arith
-      | else-coin-eq1 w ↦ let k = turn-zero s i (omega arith) c.requires w.if-coin-eq1.false in omega arith
+      | else-coin-eq1 w ↦ let k = turn_zero s i (omega arith) c.requires w.if-coin-eq1.false in omega arith
     ]
 
 pub returns : goal.returns

@@ -4,7 +4,7 @@ use Rattle.std.proofs.lemmas.Nat.{one_shl}
 use Rattle.std.proofs.lemmas.List.{drop-set-lt}
 use Rattle.extractors.specs.Bits.{bytes}
 use Rattle.ranking.specs.Groups.{in_bits}
-use Rattle.ranking.proofs.GroupWriting.{wrote-low, wrote-high, wrote_all}
+use Rattle.ranking.proofs.GroupWriting.{wrote_low, wrote_high, wrote_all}
 use Rattle.ranking.proofs.group.write_bits.Goals.{then-left-power, else-left-power}
 use Rattle.ranking.proofs.group.write_bits.Goals as goal
 
@@ -20,14 +20,14 @@ loop-i-preserved c =
     elim c.if-left-power.branch [
       | then-left-power w ↦ (
         omega arith,
-        wrote-low xs all i k t (omega arith) (omega arith) c.loop-i.invariant.1 (omega arith)
+        wrote_low xs all i k t (omega arith) (omega arith) c.loop-i.invariant.1 (omega arith)
             ∙ ap₂ (λ (ys : List ℕ) (r : ℕ). take (i + 1) ys ++ bytes (in_bits (k - 1) r)) (sym w.tray-is) (sym w.left-is),
         ap (drop a) w.tray-is ∙ drop-set-lt a xs i 0 (omega arith) ∙ c.loop-i.invariant.2,
       )
       | else-left-power w ↦
           let r : t - 2 ^ (k - 1) ≡ c.if-left-power.left = omega arith in (
             omega arith,
-            wrote-high xs all i k t (omega arith) (omega arith) c.loop-i.invariant.1 (omega arith)
+            wrote_high xs all i k t (omega arith) (omega arith) c.loop-i.invariant.1 (omega arith)
                 ∙ ap₂ (λ (ys : List ℕ) (r : ℕ). take (i + 1) ys ++ bytes (in_bits (k - 1) r)) (sym w.tray-is) r,
             ap (drop a) w.tray-is ∙ drop-set-lt a xs i 1 (omega arith) ∙ c.loop-i.invariant.2,
           )

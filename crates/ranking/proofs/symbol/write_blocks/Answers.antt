@@ -1,14 +1,14 @@
 -- A turn writes the bits of one block behind those of the blocks before it.
 use Rattle.std.proofs.Common.{◌-◌, length, arith}
 use Rattle.std.specs.Slice.Iter.{chunks_rest, chunks_size}
-use Rattle.ranking.proofs.BlockWriting.{block-codes, block-short, block_room, tray_room, writing_more}
+use Rattle.ranking.proofs.BlockWriting.{block_codes, block_short, block_room, tray_room, writing_more}
 use Rattle.ranking.proofs.symbol.write_blocks.Goals as goal
 
 pub symbol-rank-rank-requires : goal.symbol-rank-rank-requires
 symbol-rank-rank-requires c =
     let h = c.in-Some.ensures.steps in
-    let few = block-short c.args.size c.args.b c.args.recording.now c.args.tray.now (chunks_rest c.loop-block.block-iterator) c.in-Some.block.now (chunks_rest c.next.new.self) c.loop-block.given c.loop-block.tray (chunks_size c.loop-block.block-iterator) c.requires.sized c.requires.some c.loop-block.invariant.3 c.loop-block.invariant.2 h.1.0 h.1.1 in
-    record { sized = c.requires.sized.1; short = omega arith; codes = block-codes c.args.size c.args.b c.args.recording.now c.args.tray.now (chunks_rest c.loop-block.block-iterator) c.in-Some.block.now (chunks_rest c.next.new.self) c.loop-block.given c.loop-block.tray (chunks_size c.loop-block.block-iterator) c.requires.sized c.requires.some c.loop-block.invariant.3 c.loop-block.invariant.2 h.1.0 h.1.1 }
+    let few = block_short c.args.size c.args.b c.args.recording.now c.args.tray.now (chunks_rest c.loop-block.block-iterator) c.in-Some.block.now (chunks_rest c.next.new.self) c.loop-block.given c.loop-block.tray (chunks_size c.loop-block.block-iterator) c.requires.sized c.requires.some c.loop-block.invariant.3 c.loop-block.invariant.2 h.1.0 h.1.1 in
+    record { sized = c.requires.sized.1; short = omega arith; codes = block_codes c.args.size c.args.b c.args.recording.now c.args.tray.now (chunks_rest c.loop-block.block-iterator) c.in-Some.block.now (chunks_rest c.next.new.self) c.loop-block.given c.loop-block.tray (chunks_size c.loop-block.block-iterator) c.requires.sized c.requires.some c.loop-block.invariant.3 c.loop-block.invariant.2 h.1.0 h.1.1 }
 
 pub write-rank-bits-given-requires : goal.write-rank-bits-given-requires
 write-rank-bits-given-requires c =

@@ -1,8 +1,8 @@
 -- One byte more is written; the bytes before it are kept.
 use Rattle.std.proofs.Common.{◌≡◌, ◌+◌, ◌-◌, ◌*◌, length, take, sym, ap, ◌∙◌, arith}
 use Rattle.std.proofs.lemmas.List.{take_all}
-use Rattle.ledger.specs.Packing.{packed}
-use Rattle.ledger.proofs.Packs.{key_more}
+use Rattle.well.specs.Packing.{packed}
+use Rattle.well.proofs.Packs.{key_more}
 use Rattle.well.proofs.key.pack.Goals as goal
 
 pub loop-i-preserved : goal.loop-i-preserved

@@ -1,6 +1,6 @@
 -- The bytes written so far are packed.
 use Rattle.std.proofs.Common.{◌≡◌, take}
-use Rattle.ledger.specs.Packing.{packed}
+use Rattle.well.specs.Packing.{packed}
 use Rattle.well.proofs.key.pack.Given as goal
 
 abbrev pub invariant-loop-i : goal.invariant-loop-i

@@ -2,8 +2,8 @@
 use Rattle.std.proofs.Common.{◌≡◌, ◌*◌, ◌<◌, false, length, get_or, take, ap, ◌∙◌, arith}
 use mir.Val.{bool_byte}
 use Rattle.std.proofs.lemmas.List.{take_all}
-use Rattle.ledger.specs.Packing.{value}
-use Rattle.ledger.proofs.Packs.{value_more, front_small, below_two}
+use Rattle.well.specs.Packing.{value}
+use Rattle.well.proofs.Packs.{value_more, front_small, below_two}
 use Rattle.well.proofs.key.pack_byte.Goals as goal
 
 pub overflow-mul-byte : goal.overflow-mul-byte

@@ -2,15 +2,15 @@
 use Rattle.std.proofs.Common.{◌≡◌, ℕ, List, length, ℤ, Ok, Err, vec_items, Option, Result, sym, ap, ◌∙◌, subst}
 use Rattle.std.proofs.lemmas.Result.{err_from_is_err_and}
 use Rattle.extractors.specs.Piles.{Pile}
-use Rattle.ledger.specs.declared.fault.WellFault.{WellFault}
-use Rattle.ledger.specs.State.{State}
-use Rattle.ledger.specs.Steps.{Call.feed, Outcome.refused, Step}
+use Rattle.well.specs.declared.fault.WellFault.{WellFault}
+use Rattle.well.specs.State.{State}
+use Rattle.well.specs.Steps.{Call.feed, Outcome.refused, Step}
 use Rattle.well.specs.View.{state}
 use Rattle.noise_file.specs.declared.fault.FeedFault.{FeedFault}
 use Rattle.noise_file.specs.declared.fault.FeedFault.TheVariants.{Well}
 use Rattle.noise_file.specs.Feeds.{Fed}
 use Rattle.towers.specs.Towers.{pile_of}
-use Rattle.kinds.specs.Reading.{ReadAs}
+use Rattle.noise_file.specs.Reading.{ReadAs}
 use Rattle.noise_file.proofs.file.feed.feed_body.Goals as goal
 
 refused_below : (m n k : ℕ) (f : ℕ → Option ℕ) (p : Pile) (letters codes given : List ℕ) (s s' : State) (e : WellFault) (r : Result (ℕ × ℤ) FeedFault)

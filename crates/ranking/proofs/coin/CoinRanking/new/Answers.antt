@@ -10,8 +10,8 @@ returns-then-block-lt-LEAST-BLOCK c = record {
   refuses = outside_refused 2 60 c.args.block c.then-block-lt-LEAST-BLOCK.either;
   value = tt;
   sizes = coin_size;
-  groups-even = group_law;
+  groups_even = group_law;
 }
 
 pub returns : goal.returns
-returns c = record { refuses = inside_accepted 2 60 c.args.block (omega arith) (omega arith); value = refl; sizes = coin_size; groups-even = group_law }
+returns c = record { refuses = inside_accepted 2 60 c.args.block (omega arith) (omega arith); value = refl; sizes = coin_size; groups_even = group_law }

@@ -1,25 +1,11 @@
 -- What is accepted has room for all bits in the scratch memory and in the tray; they are copied once they stand there.
-use Rattle.std.proofs.Common.{◌*◌, ◌^◌, ◌<◌, ◌≤◌, length, sym, ◌∙◌, subst, arith}
-use Rattle.std.proofs.ByRecursion.{All-weaker}
+use Rattle.std.proofs.Common.{◌≡◌, ◌*◌, ◌≤◌, length, sym, ◌∙◌, subst, arith}
 use Rattle.classes.specs.Recordings.{width}
 use Rattle.extractors.specs.Calls.{Written}
 use Rattle.extractors.proofs.Judging.{sound}
 use Rattle.extractors.proofs.Writing.{yield_fits, copied}
 use Rattle.split.specs.SplitRule.{split}
-use Rattle.split.proofs.Noding.{some_bits}
 use Rattle.split.proofs.layer.SplitSymbolExtractor.extract.Goals as goal
-
-pub fill-requires : goal.fill-requires
-fill-requires g c =
-    let x = c.args.recording.now in
-    let s = sound c.args.size x (length c.args.tray.now) c.in-ok-judge.ensures in
-    let reaches = (c.width-w.ensures.least s.sized).reaches in
-    record {
-      wide = some_bits c.args.size c.width-w.result s.sized.0 reaches;
-      narrow = c.width-w.ensures.most;
-      recorded = (All-weaker (λ a. a < c.args.size) (λ a. a < 2 ^ c.width-w.result) (λ a l. omega (arith, reaches)) x s.recording.0, s.recording.1);
-      room = omega (arith, c.in-ok-scratch.ensures.len, c.deref-mut.ensures.len);
-    }
 
 pub slice-bounds-copy-from-slice-end : goal.slice-bounds-copy-from-slice-end
 slice-bounds-copy-from-slice-end g c =

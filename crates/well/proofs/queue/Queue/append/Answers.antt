@@ -3,7 +3,7 @@ use Rattle.std.proofs.Common.{◌≡◌, ◌++◌, length, drop, vec_items, ap, 
 use Rattle.std.proofs.lemmas.List.{drop-append-le}
 use Rattle.std.proofs.lemmas.Int.{to_z-of_z}
 use Rattle.well.specs.Held.{held}
-use Rattle.ledger.specs.Lean.{flags}
+use Rattle.well.specs.Lean.{flags}
 use Rattle.well.proofs.queue.Queue.append.Goals as goal
 use Rattle.well.proofs.queue.Queue.append.Goals.{then-tray-len, else-tray-len}
 

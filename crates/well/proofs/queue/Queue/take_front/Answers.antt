@@ -2,8 +2,8 @@
 use Rattle.std.proofs.Common.{◌≡◌, ◌+◌, ◌-◌, ◌*◌, ◌≤◌, length, take, drop, vec_items, sym, ap, ◌∙◌, arith, length-drop}
 use Rattle.std.proofs.lemmas.List.{length-take, take_rest, drop-drop}
 use Rattle.well.specs.Held.{held}
-use Rattle.ledger.specs.Packing.{packed, unpacked}
-use Rattle.ledger.proofs.Packs.{unpacked_packed}
+use Rattle.well.specs.Packing.{packed, unpacked}
+use Rattle.well.proofs.Packs.{unpacked_packed}
 use Rattle.well.proofs.queue.Queue.take_front.Goals as goal
 
 pub overflow-mul-next : goal.overflow-mul-next
@@ -38,6 +38,6 @@ returns c =
     let full : c.pack.new.key ≡ packed k old = c.pack.ensures ∙ ap (packed k) view in
     record {
       filled = full;
-      oldest-first = ap unpacked full ∙ unpacked_packed k old c.requires;
+      oldest_first = ap unpacked full ∙ unpacked_packed k old c.requires;
       rest = sym (drop-drop (8 * k) start (vec_items c.args.self.now.bits));
     }

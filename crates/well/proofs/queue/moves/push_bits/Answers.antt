@@ -2,7 +2,7 @@
 use Rattle.std.proofs.Common.{◌≡◌, ◌++◌, length, get_or, take, vec_items, ap, ◌∙◌, arith}
 use Rattle.std.proofs.lemmas.List.{take_all}
 use Rattle.std.proofs.lemmas.Int.{ints}
-use Rattle.ledger.specs.Lean.{lean, flags}
+use Rattle.well.specs.Lean.{lean, flags}
 use Rattle.well.proofs.Leaning.{flags_more, lean_one, lean_zero, items_more}
 use Rattle.well.proofs.queue.moves.push_bits.Goals as goal
 use Rattle.well.proofs.queue.moves.push_bits.Goals.{then-byte-eq1, else-byte-eq1}

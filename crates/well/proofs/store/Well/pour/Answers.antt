@@ -1,12 +1,10 @@
 -- The pile's bits enter the queue, and the step is that of an accepted feed.
-use Rattle.std.proofs.Common.{◌≡◌, ◌+◌, ◌-◌, ◌≤◌, ◌++◌, length, take, refl, ap, ◌∙◌, arith, length-append, rules}
+use Rattle.std.proofs.Common.{◌≡◌, ◌+◌, ◌-◌, ◌≤◌, ◌++◌, length, take, ap, ◌∙◌, arith, length-append, rules}
 use Rattle.std.proofs.lemmas.List.{length-take-le}
 use Rattle.extractors.specs.Piles.{bits}
 use Rattle.extractors.proofs.Writing.{yield_fits}
-use Rattle.ledger.specs.Steps.{Call.feed, Outcome.fed}
-use Rattle.ledger.proofs.Living.{lived_next}
 use Rattle.well.specs.Held.{held}
-use Rattle.ledger.specs.Lean.{flags, lean}
+use Rattle.well.specs.Lean.{flags, lean}
 use Rattle.well.specs.View.{state}
 use Rattle.well.proofs.Feeding.{flags_front, room_poured, room_held, filled_by, step_fed}
 use Rattle.well.proofs.store.Well.pour.Goals as goal
@@ -24,18 +22,15 @@ append-lean-requires g c =
 
 pub invariant-of-self : goal.invariant-of-self
 invariant-of-self g c =
-    let p = g.E.SymbolExtractor.pile c.args.pile.now in
-    let m = c.args.size in
-    let x = c.args.recording.now in
     let s = state c.args.self.now in
     let y = c.in-ok-gain.gain in
+    let b = bits (g.E.SymbolExtractor.pile c.args.pile.now) c.args.size c.args.recording.now in
     let h = c.in-ok-gain.ensures in
-    let front : flags (take (y - 0) c.extract.new.tray) ≡ bits p m x = flags_front (bits p m x) _ c.extract.new.tray y h.1.1 h.1.0 in
-    let grown : held c.append-lean.new.self ≡ held c.args.self.now.queue ++ bits p m x = c.append-lean.ensures.appended ∙ ap (λ z. held c.args.self.now.queue ++ z) front in
-    let longer : length (held c.append-lean.new.self) ≡ length (held c.args.self.now.queue) + length (bits p m x) = ap length grown ∙ length-append (held c.args.self.now.queue) (bits p m x) in
+    let front : flags (take (y - 0) c.extract.new.tray) ≡ b = flags_front b _ c.extract.new.tray y h.1.1 h.1.0 in
+    let grown : length (held c.append-lean.new.self) ≡ length (held c.args.self.now.queue) + length b =
+    ap length (c.append-lean.ensures.appended ∙ ap (λ z. held c.args.self.now.queue ++ z) front) ∙ length-append (held c.args.self.now.queue) b in
     let some : s.poured + y ≤ 16777216 = room_poured s y c.in-ok-judge-gain.ensures in
-    let step = step_fed s p (g.met.E.SymbolExtractor.lawful c.args.pile.now) m x (length c.args.tray.now) h.0 y h.1.0 c.in-ok-judge-gain.ensures (lean (bits p m x)) refl _ (filled_by s (bits p m x) _ y grown h.1.0) in
-    (omega arith, (omega (arith, h.1.0), (omega arith, (lived_next s _ (feed p m x (length c.args.tray.now)) (fed y (lean (bits p m x))) c.args.self.now.lived refl step, tt))))
+    (omega arith, (omega (arith, h.1.0), (omega arith, tt)))
 
 pub returns : goal.returns
 returns g c =

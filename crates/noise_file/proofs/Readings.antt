@@ -1,0 +1,37 @@
+-- Lemmas on letters read as codes.
+use Rattle.std.proofs.Common.{◌≡◌, ℕ, ◌+◌, ◌<◌, Bool, true, false, List, [], ◌∷◌, map, length, get_or, is_some, Some, None, Option, sym, ap, ◌∙◌, arith}
+use Rattle.std.specs.List.{AllByRecursion as All}
+use Rattle.std.proofs.lemmas.List.{length-map}
+use Rattle.noise_file.specs.First.{unless, first_over}
+use Rattle.noise_file.specs.Reading.{stray_at, stray, ReadAs}
+use Rattle.noise_file.proofs.Firsts.{over_first, over_more, over_found}
+
+pub codes_below : (m : ℕ) (f : ℕ → Option ℕ) → ((l c : ℕ) → f l ≡ Some c → c < m) → (letters codes : List ℕ) → map Some codes ≡ map f letters → All (λ c. c < m) codes
+codes_below m f law letters [] h = tt
+codes_below m f law [] (c ∷ cs) h = let z : ◌≡◌ {A = ℕ} 0 1 = cc in let no : ⊥ = omega arith in elim no [ ]
+codes_below m f law (l ∷ ls) (c ∷ cs) h =
+    let here : f l ≡ Some c = cc in
+    let rest : map Some cs ≡ map f ls = cc in
+    (law l c here, codes_below m f law ls cs rest)
+
+pub read_as : (m : ℕ) (f : ℕ → Option ℕ) → ((l c : ℕ) → f l ≡ Some c → c < m) → (letters codes : List ℕ) → map Some codes ≡ map f letters → ReadAs m f letters codes
+read_as m f law letters codes h =
+    record { coded = h; below = codes_below m f law letters codes h; as_many = sym (length-map codes Some) ∙ (ap length h ∙ length-map letters f) }
+
+module _ (f : ℕ → Option ℕ) (letters : List ℕ) (i : ℕ) where
+  -- the first letter that has no code
+  pub stray_here : i < length letters → first_over i (stray_at f letters) ≡ None → is_some (f (get_or letters i 0)) ≡ false → Some i ≡ stray f letters
+  stray_here l before here = sym (over_first (stray_at f letters) i (length letters) i before (rw here) l)
+
+  pub stray_more : first_over i (stray_at f letters) ≡ None → is_some (f (get_or letters i 0)) ≡ true → first_over (i + 1) (stray_at f letters) ≡ None
+  stray_more before here = over_more (stray_at f letters) i before ∙ rw here
+
+pub stray_below : (f : ℕ → Option ℕ) (letters : List ℕ) (k : ℕ) → Some k ≡ stray f letters → k < length letters
+stray_below f letters k h = at (over_found (stray_at f letters) (length letters) k (sym h))
+  where
+    same : (b : Bool) (i : ℕ) → unless b i ≡ Some k → i ≡ k
+    same true i e = cc
+    same false i e = cc
+
+    at : (i : ℕ) × (i < length letters) × (stray_at f letters i ≡ Some k) → k < length letters
+    at (i, l, e) = let s : i ≡ k = same _ i e in omega arith

@@ -1,0 +1,56 @@
+#!/usr/bin/env bash
+# Compares the cleaning program with its twins: makes noise files, good and damaged, runs all three on each, and fails
+# on the first file for which they do not print the same bytes. Where the program is not built yet it is built first,
+# which proves it, as scripts/clean.sh does. The files stay in target/twin/files/SEED.
+#   bash scripts/compare.sh [SEED [COUNT]]        (1 and 3000 if not given)
+# CLEAN may name a program to compare instead of target/bin/clean, by its path from the repository's folder.
+# It also holds the fixed cases of crates/fixed_cases, its stdin and stdout, to what the twin makes of them.
+set -euo pipefail
+cd "$(dirname "$0")/.."
+seed=${1:-1}
+count=${2:-3000}
+clean=${CLEAN:-target/bin/clean}
+
+mkdir -p target/twin
+for name in clean cases fast; do
+    rustc --edition 2021 -O -o "target/twin/$name" "twin/$name.rs"
+done
+[ -x "$clean" ] || [ -n "${CLEAN:-}" ] || rt check clean >&2
+[ -x "$clean" ] || { echo "compare: there is no program $clean" >&2; exit 1; }
+
+target/twin/cases pack 1 300 target/twin/cases.bin
+cmp target/twin/cases.bin crates/fixed_cases/stdin >&2
+target/twin/clean cases < crates/fixed_cases/stdin > target/twin/cases.expected
+cmp target/twin/cases.expected crates/fixed_cases/stdout >&2
+
+files=target/twin/files/$seed
+rm -rf "$files"
+mkdir -p "$files"
+target/twin/cases "$seed" "$count" "$files"
+
+# printed PROGRAM FILE NAME: what the program prints for the file, into $files/printed.NAME; it must end well
+printed() {
+    if ! "$1" < "$2" > "$files/printed.$3"; then
+        echo "compare: $1 did not end well on $2" >&2
+        exit 1
+    fi
+}
+
+compared=0
+for file in "$files"/*.noise; do
+    printed "$clean" "$file" program
+    printed target/twin/clean "$file" clean
+    printed target/twin/fast "$file" fast
+    for twin in clean fast; do
+        if ! cmp "$files/printed.program" "$files/printed.$twin" >&2; then
+            echo "compare: DIFFERENT: $file: $clean and target/twin/$twin do not print the same" >&2
+            exit 1
+        fi
+    done
+    compared=$((compared + 1))
+done
+if [ "$compared" -ne "$count" ]; then
+    echo "compare: $compared files compared, but $count were asked for" >&2
+    exit 1
+fi
+echo "compared $compared files of seed $seed: the program and both twins print the same"
