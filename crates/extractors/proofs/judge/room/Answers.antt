@@ -17,6 +17,6 @@ pub returns : goal.returns
 returns c =
     let w = c.width.ensures in
     record {
-      bytes = c.saturating-mul.ensures ∙ ap (λ v. min (v * c.args.n) (2 ^ 64 - 1)) w.value;
-      suffices = within c.args.size c.args.n c.width.result c.saturating-mul.result w.value w.most c.saturating-mul.ensures;
+      bytes = c.saturating_mul.ensures ∙ ap (λ v. min (v * c.args.n) (2 ^ 64 - 1)) w.value;
+      suffices = within c.args.size c.args.n c.width.result c.saturating_mul.result w.value w.most c.saturating_mul.ensures;
     }

@@ -6,7 +6,7 @@ use Rattle.extractors.proofs.judge.width.Goals as goal
 
 pub returns : goal.returns
 returns c = record {
-  value = c.tabled-width.ensures.value;
-  least = λ sized. subst (LeastWidth c.args.size) (sym c.tabled-width.ensures.value) (width_least c.args.size sized);
-  most = c.tabled-width.ensures.most;
+  value = c.tabled_width.ensures.value;
+  least = λ sized. subst (LeastWidth c.args.size) (sym c.tabled_width.ensures.value) (width_least c.args.size sized);
+  most = c.tabled_width.ensures.most;
 }
