@@ -7,8 +7,8 @@ use extractors::interface::SymbolExtractor;
 /// Any symbol extractor is even on every count class, and on the class of its pile: the Markov class with a Blum layer
 /// on top, else the count class. The function holds the statement; it answers 0, which is of no use.
 pub fn class_stands<E: SymbolExtractor>(extractor: &E) -> u8
-    ensures counts { CountsEven (pile extractor.now) }
-    ensures own_class { OwnClassEven (pile extractor.now) }
+    ensures counts { CountsEven (E.pile extractor.now) }
+    ensures own_class { OwnClassEven (E.pile extractor.now) }
     ensures answer { result ≡ 0 }
 {
     0

@@ -79,14 +79,14 @@ overflow-add-at-in-loop-state g c =
 
 pub loop-state-preserved : goal.loop-state-preserved
 loop-state-preserved g c =
-    let u = exits_in_row c.args.size c.args.recording.now c.file-exits-lengths.result c.file-exits-lengths.new.rows c.in-ok-filed.filed.items c.as-slice-rows.result.now c.in-ok-filed.filed.len c.loop-state.state c.kept-exits-k.result c.file-exits-lengths.ensures (c.file-exits-lengths.auto.rows ∙ c.deref-mut.ensures.len) c.as-slice-rows.ensures.value c.loop-state-test.true (omega arith) c.kept-exits-k.ensures in
+    let u = exits_in_row c.args.size c.args.recording.now c.file_exits-lengths.result c.file_exits-lengths.new.rows c.in_ok-filed.filed.items c.as_slice-rows.result.now c.in_ok-filed.filed.len c.loop-state.state c.kept-exits-k.result c.file_exits-lengths.ensures (c.file_exits-lengths.auto.rows ∙ c.deref-mut.ensures.len) c.as_slice-rows.ensures.value c.loop-state-test.true (omega arith) c.kept-exits-k.ensures in
     let x = c.args.recording.now in
     let m = c.args.size in
     let s = c.loop-state.state in
     let k = c.kept-exits-k.result in
     let at = c.loop-state.at in
     let start = s * length x in
-    let given : take (start + k - start) (drop start c.as-slice-rows.result.now) ≡ kept s x = ap (λ j. take j (drop start c.as-slice-rows.result.now)) (let j : start + k - start ≡ k = omega arith in j) ∙ u.are_kept in
+    let given : take (start + k - start) (drop start c.as_slice-rows.result.now) ≡ kept s x = ap (λ j. take j (drop start c.as_slice-rows.result.now)) (let j : start + k - start ≡ k = omega arith in j) ∙ u.are_kept in
     let q = at + c.width-w.result * k - at in
     let f = bits (g.E.SymbolExtractor.pile c.args.below.now) m in
     let h = c.in-ok-got.ensures in

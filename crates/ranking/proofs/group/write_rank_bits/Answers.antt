@@ -24,7 +24,7 @@ returns-then-position-power c =
     let p : (1 * 2 ^ (a - 1)) % 2 ^ 64 ≡ 2 ^ (a - 1) = one_shl (a - 1) 64 (omega arith) in
     let g = sym c.loop-a.invariant.0 ∙ turn_here a c.loop-a.left c.loop-a.position (omega arith) (omega arith) (omega arith) in
     let n : a - 1 ≡ length (rank_bits c.args.size c.args.rank) = sym (ap length g ∙ length_in_bits (a - 1) c.loop-a.position) in
-    (n, c.write-bits.ensures ∙ ap₂ (λ (s : List Bool) (xs : List ℕ). bytes s ++ drop (a - 1) xs) (sym g) c.loop-a.invariant.1 ∙ ap (λ (k : ℕ). bytes (rank_bits c.args.size c.args.rank) ++ drop k c.args.tray.now) n)
+    (n, c.write_bits.ensures ∙ ap₂ (λ (s : List Bool) (xs : List ℕ). bytes s ++ drop (a - 1) xs) (sym g) c.loop-a.invariant.1 ∙ ap (λ (k : ℕ). bytes (rank_bits c.args.size c.args.rank) ++ drop k c.args.tray.now) n)
 
 pub loop-a-preserved-then-left-power : goal.loop-a-preserved-then-left-power
 loop-a-preserved-then-left-power c =

@@ -56,8 +56,8 @@ overflow-add-rank c =
 pub loop-i-preserved : goal.loop-i-preserved
 loop-i-preserved c =
     let t = turn c.args.size c.args.block.now c.loop-i.i c.loop-i.counts c.loop-i.arrangements c.loop-i.rest c.loop-i.rank c.requires.sized c.requires.short c.requires.codes (omega arith) (omega arith) c.loop-i.invariant in
-    let e = ap (λ k. c.loop-i.rank + c.loop-i.arrangements * (c.loop-i.rest + 1) / (get_or c.loop-i.counts (get_or c.args.block.now (c.loop-i.i - 1) 0) 0 + 1) * k / (c.loop-i.rest + 1)) c.sum-below.ensures in
-    (t.wide, t.counts, t.sum_is, t.rest_is, t.size-is, e ∙ t.rank_is)
+    let e = ap (λ k. c.loop-i.rank + c.loop-i.arrangements * (c.loop-i.rest + 1) / (get_or c.loop-i.counts (get_or c.args.block.now (c.loop-i.i - 1) 0) 0 + 1) * k / (c.loop-i.rest + 1)) c.sum_below.ensures in
+    (t.wide, t.counts, t.sum_is, t.rest_is, t.size_is, e ∙ t.rank_is)
 
 pub returns : goal.returns
 returns c =

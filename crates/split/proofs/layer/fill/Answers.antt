@@ -15,7 +15,7 @@ pub loop-d-preserved : goal.loop-d-preserved
 loop-d-preserved g c =
     let f = g.E.CoinExtractor.gives c.args.below.now in
     let x = c.args.codes.now in
-    let n = part_fits (level c.args.w c.loop-d.d f x) c.loop-d.out c.fill-level.new.out c.loop-d.at c.in-ok-at.field-0 (length x) c.in-ok-at.ensures c.fill-level.auto.out in (
-      gathered (λ e. level c.args.w e f x) c.loop-d.d c.args.out.now c.loop-d.out c.fill-level.new.out c.loop-d.at c.in-ok-at.field-0 _ c.loop-d.invariant.0 c.in-ok-at.ensures c.fill-level.auto.out,
+    let n = part_fits (level c.args.w c.loop-d.d f x) c.loop-d.out c.fill_level.new.out c.loop-d.at c.in_ok-at.field-0 (length x) c.in_ok-at.ensures c.fill_level.auto.out in (
+      gathered (λ e. level c.args.w e f x) c.loop-d.d c.args.out.now c.loop-d.out c.fill_level.new.out c.loop-d.at c.in_ok-at.field-0 _ c.loop-d.invariant.0 c.in_ok-at.ensures c.fill_level.auto.out,
       omega (arith, c.loop-d.invariant.1),
     )

@@ -44,10 +44,10 @@ loop-lead-preserved g c =
     let p = c.loop-lead.lead in
     let at = c.loop-lead.at in
     let q = at + c.len.result - at in
-    let is : c.deref.result.now ≡ node w d p x = c.deref.ensures.value ∙ c.in-ok-coins.ensures in
-    let l : c.len.result ≡ length (node w d p x) = c.len.ensures ∙ c.in-ok-coins.coins.ok.0 ∙ ap length c.in-ok-coins.ensures in
-    let n = part_fits (f c.deref.result.now) c.loop-lead.out c.fill-node.new.out at c.in-ok-at.field-0 c.len.result c.in-ok-at.ensures c.fill-node.auto.out in (
-      gathered (λ k. f (node w d k x)) p c.args.out.now c.loop-lead.out c.fill-node.new.out at c.in-ok-at.field-0 q c.loop-lead.invariant.0
-          (subst (λ z. Written (f z) (take q (drop at c.loop-lead.out)) c.in-ok-at.field-0 c.fill-node.new.out) is c.in-ok-at.ensures) c.fill-node.auto.out,
-      subst (λ z. at + c.in-ok-at.field-0 ≤ z) (sym (taken_more w d p x)) (omega (arith, c.loop-lead.invariant.1)),
+    let is : c.deref.result.now ≡ node w d p x = c.deref.ensures.value ∙ c.in_ok-coins.ensures in
+    let l : c.len.result ≡ length (node w d p x) = c.len.ensures ∙ c.in_ok-coins.coins.ok.0 ∙ ap length c.in_ok-coins.ensures in
+    let n = part_fits (f c.deref.result.now) c.loop-lead.out c.fill_node.new.out at c.in_ok-at.field-0 c.len.result c.in_ok-at.ensures c.fill_node.auto.out in (
+      gathered (λ k. f (node w d k x)) p c.args.out.now c.loop-lead.out c.fill_node.new.out at c.in_ok-at.field-0 q c.loop-lead.invariant.0
+          (subst (λ z. Written (f z) (take q (drop at c.loop-lead.out)) c.in_ok-at.field-0 c.fill_node.new.out) is c.in_ok-at.ensures) c.fill_node.auto.out,
+      subst (λ z. at + c.in_ok-at.field-0 ≤ z) (sym (taken_more w d p x)) (omega (arith, c.loop-lead.invariant.1)),
     )

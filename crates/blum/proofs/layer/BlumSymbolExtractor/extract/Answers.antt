@@ -8,9 +8,9 @@ use Rattle.blum.proofs.layer.BlumSymbolExtractor.extract.Goals as goal
 
 pub fill-requires : goal.fill-requires
 fill-requires g c =
-    let j = sound c.args.size c.args.recording.now (length c.args.tray.now) c.in-ok-judge.ensures in
+    let j = sound c.args.size c.args.recording.now (length c.args.tray.now) c.in_ok-judge.ensures in
     let t = ap (λ v. v * length c.args.recording.now) c.width.ensures.value in
-    record { sized = j.sized; recorded = j.recording; room = omega (arith, t, c.in-ok-scratch.ensures.len, c.deref-mut.ensures.len) }
+    record { sized = j.sized; recorded = j.recording; room = omega (arith, t, c.in_ok-scratch.ensures.len, c.deref_mut.ensures.len) }
 
 pub slice-bounds-copy-from-slice-end : goal.slice-bounds-copy-from-slice-end
 slice-bounds-copy-from-slice-end g c =
@@ -26,10 +26,10 @@ pub returns : goal.returns
 returns g c =
     let m = c.args.size in
     let s = blum m (bits (g.E.SymbolExtractor.pile c.args.self.now.below) m) c.args.recording.now in
-    let w = c.in-ok-n.ensures in (
-      c.in-ok-judge.ensures,
+    let w = c.in_ok-n.ensures in (
+      c.in_ok-judge.ensures,
       (
         w.0,
-        copied s c.deref-mut.result.now c.fill.new.scratch c.in-ok-scratch.scratch.items c.deref.result.now c.args.tray.now c.copy-from-slice.new.self c.in-ok-n.n c.in-ok-scratch.scratch.len w (c.fill.auto.scratch ∙ c.deref-mut.ensures.len) c.deref.ensures.value c.copy-from-slice.ensures.after,
+        copied s c.deref_mut.result.now c.fill.new.scratch c.in_ok-scratch.scratch.items c.deref.result.now c.args.tray.now c.copy-from-slice.new.self c.in_ok-n.n c.in_ok-scratch.scratch.len w (c.fill.auto.scratch ∙ c.deref_mut.ensures.len) c.deref.ensures.value c.copy-from-slice.ensures.after,
       ),
     )

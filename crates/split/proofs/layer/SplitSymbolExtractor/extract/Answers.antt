@@ -25,12 +25,12 @@ returns g c =
     let f = g.E.CoinExtractor.gives c.args.self.now.below in
     let x = c.args.recording.now in
     let s = split (width c.args.size) f x in
-    let w : Written s c.deref-mut.result.now c.in-ok-n.n c.fill.new.out =
-    subst (λ v. Written (split v f x) c.deref-mut.result.now c.in-ok-n.n c.fill.new.out) c.width-w.ensures.value c.in-ok-n.ensures in (
-      c.in-ok-judge.ensures,
+    let w : Written s c.deref_mut.result.now c.in_ok-n.n c.fill.new.out =
+    subst (λ v. Written (split v f x) c.deref_mut.result.now c.in_ok-n.n c.fill.new.out) c.width-w.ensures.value c.in_ok-n.ensures in (
+      c.in_ok-judge.ensures,
       (
         w.0,
-        copied s c.deref-mut.result.now c.fill.new.out c.in-ok-scratch.scratch.items c.deref.result.now c.args.tray.now c.copy-from-slice.new.self c.in-ok-n.n c.in-ok-scratch.scratch.len w (c.fill.auto.out ∙ c.deref-mut.ensures.len)
+        copied s c.deref_mut.result.now c.fill.new.out c.in_ok-scratch.scratch.items c.deref.result.now c.args.tray.now c.copy-from-slice.new.self c.in_ok-n.n c.in_ok-scratch.scratch.len w (c.fill.auto.out ∙ c.deref_mut.ensures.len)
             c.deref.ensures.value c.copy-from-slice.ensures.after,
       ),
     )
