@@ -8,8 +8,8 @@ bounds-lengths-state c =
     let p = file_place c.args.size c.args.recording.now c.loop-i.i c.loop-i.lengths c.loop-i.rows c.loop-i.invariant.2 c.if-i-n.true c.requires.recorded.0 in
     omega (arith, p.0, c.requires.sized.1)
 
-pub overflow-add-rows-then-i-n : goal.overflow-add-rows-then-i-n
-overflow-add-rows-then-i-n c =
+pub overflow_add-rows-then-i-n : goal.overflow_add-rows-then-i-n
+overflow_add-rows-then-i-n c =
     let p = file_place c.args.size c.args.recording.now c.loop-i.i c.loop-i.lengths c.loop-i.rows c.loop-i.invariant.2 c.if-i-n.true c.requires.recorded.0 in
     omega (arith, p.2, c.requires.room)
 
@@ -18,8 +18,8 @@ bounds-rows-state c =
     let p = file_place c.args.size c.args.recording.now c.loop-i.i c.loop-i.lengths c.loop-i.rows c.loop-i.invariant.2 c.if-i-n.true c.requires.recorded.0 in
     omega (arith, p.2, c.requires.room, c.loop-i.auto.rows)
 
-pub overflow-add-lengths : goal.overflow-add-lengths
-overflow-add-lengths c =
+pub overflow_add-lengths : goal.overflow_add-lengths
+overflow_add-lengths c =
     let p = file_place c.args.size c.args.recording.now c.loop-i.i c.loop-i.lengths c.loop-i.rows c.loop-i.invariant.2 c.if-i-n.true c.requires.recorded.0 in
     omega (arith, p.1, c.if-i-n.true)
 

@@ -4,4 +4,4 @@ use Rattle.noise_file.proofs.contents.accepted_entry.Goals as goal
 
 pub returns : goal.returns
 returns c =
-    record { holds = c.entry-at.ensures; of_kind = entry_of_kind c.args.bytes.now c.args.i c.entry-at.result c.requires.accepted c.requires.listed c.entry-at.ensures; short = entry_short c.args.bytes.now c.args.i c.entry-at.result c.requires.accepted c.requires.listed c.entry-at.ensures }
+    record { holds = c.entry_at.ensures; of_kind = entry_of_kind c.args.bytes.now c.args.i c.entry_at.result c.requires.accepted c.requires.listed c.entry_at.ensures; short = entry_short c.args.bytes.now c.args.i c.entry_at.result c.requires.accepted c.requires.listed c.entry_at.ensures }

@@ -3,28 +3,28 @@ use Rattle.std.proofs.lemmas.Result.{err_from_is_err_and}
 use Rattle.noise_file.proofs.Files.{contents_fit, legible, judged, due_at_head, due_at_contents, due_at_end}
 use Rattle.noise_file.proofs.judge.judge.Goals as goal
 
-pub returns-in-err-judge-head : goal.returns-in-err-judge-head
-returns-in-err-judge-head c =
-    let p = err_from_is_err_and c.from-residual.result c.from-residual.ensures.1 in
-    rw (p.1, p.2) (record { due = due_at_head c.args.bytes.now c.in-err-judge-head.field-0.0 c.in-err-judge-head.ensures; accepted = tt })
+pub returns-in_err-judge_head : goal.returns-in_err-judge_head
+returns-in_err-judge_head c =
+    let p = err_from_is_err_and c.from_residual.result c.from_residual.ensures.1 in
+    rw (p.1, p.2) (record { due = due_at_head c.args.bytes.now c.in_err-judge_head.field-0.0 c.in_err-judge_head.ensures; accepted = tt })
 
-pub returns-in-err-judge-contents : goal.returns-in-err-judge-contents
-returns-in-err-judge-contents c =
-    let p = err_from_is_err_and c.from-residual-in-err-judge-contents.result c.from-residual-in-err-judge-contents.ensures.1 in
-    rw (p.1, p.2) (record { due = due_at_contents c.args.bytes.now c.in-err-judge-contents.field-0.0 c.in-ok-judge-head.ensures c.in-err-judge-contents.ensures; accepted = tt })
+pub returns-in_err-judge_contents : goal.returns-in_err-judge_contents
+returns-in_err-judge_contents c =
+    let p = err_from_is_err_and c.from_residual-in_err-judge_contents.result c.from_residual-in_err-judge_contents.ensures.1 in
+    rw (p.1, p.2) (record { due = due_at_contents c.args.bytes.now c.in_err-judge_contents.field-0.0 c.in_ok-judge_head.ensures c.in_err-judge_contents.ensures; accepted = tt })
 
-pub judge-end-requires : goal.judge-end-requires
-judge-end-requires c = contents_fit c.args.bytes.now c.in-ok-judge-contents.ensures
+pub judge_end-requires : goal.judge_end-requires
+judge_end-requires c = contents_fit c.args.bytes.now c.in_ok-judge_contents.ensures
 
-pub returns-in-err-judge-end : goal.returns-in-err-judge-end
-returns-in-err-judge-end c =
-    let p = err_from_is_err_and c.from-residual-in-err-judge-end.result c.from-residual-in-err-judge-end.ensures.1 in
-    rw (p.1, p.2) (record { due = due_at_end c.args.bytes.now c.in-err-judge-end.field-0.0 c.in-ok-judge-head.ensures c.in-ok-judge-contents.ensures c.in-err-judge-end.ensures; accepted = tt })
+pub returns-in_err-judge_end : goal.returns-in_err-judge_end
+returns-in_err-judge_end c =
+    let p = err_from_is_err_and c.from_residual-in_err-judge_end.result c.from_residual-in_err-judge_end.ensures.1 in
+    rw (p.1, p.2) (record { due = due_at_end c.args.bytes.now c.in_err-judge_end.field-0.0 c.in_ok-judge_head.ensures c.in_ok-judge_contents.ensures c.in_err-judge_end.ensures; accepted = tt })
 
-pub judge-letters-requires : goal.judge-letters-requires
-judge-letters-requires c = record { legible = legible c.args.bytes.now c.in-ok-judge-contents.ensures c.in-ok-judge-end.ensures; contents = contents_fit c.args.bytes.now c.in-ok-judge-contents.ensures }
+pub judge_letters-requires : goal.judge_letters-requires
+judge_letters-requires c = record { legible = legible c.args.bytes.now c.in_ok-judge_contents.ensures c.in_ok-judge_end.ensures; contents = contents_fit c.args.bytes.now c.in_ok-judge_contents.ensures }
 
 pub returns : goal.returns
 returns c =
-    let j = judged c.args.bytes.now c.judge-letters.result c.in-ok-judge-head.ensures c.in-ok-judge-contents.ensures c.in-ok-judge-end.ensures c.judge-letters.ensures in
+    let j = judged c.args.bytes.now c.judge_letters.result c.in_ok-judge_head.ensures c.in_ok-judge_contents.ensures c.in_ok-judge_end.ensures c.judge_letters.ensures in
     record { due = j.0; accepted = j.1 }

@@ -6,13 +6,13 @@ use Rattle.noise_file.proofs.Firsts.{over_more}
 use Rattle.noise_file.proofs.Files.{letters_body, letters_none}
 use Rattle.noise_file.proofs.judge.judge_letters.Goals as goal
 
-pub returns-in-err-judge-body : goal.returns-in-err-judge-body
-returns-in-err-judge-body c =
-    let p = err_from_is_err_and c.from-residual.result c.from-residual.ensures.1 in
-    rw (p.1, p.2) (letters_body c.args.bytes.now c.loop-i.i c.in-err-judge-body.field-0.0 c.loop-i.invariant c.in-err-judge-body.ensures (omega arith))
+pub returns-in_err-judge_body : goal.returns-in_err-judge_body
+returns-in_err-judge_body c =
+    let p = err_from_is_err_and c.from_residual.result c.from_residual.ensures.1 in
+    rw (p.1, p.2) (letters_body c.args.bytes.now c.loop-i.i c.in_err-judge_body.field-0.0 c.loop-i.invariant c.in_err-judge_body.ensures (omega arith))
 
 pub loop-i-preserved : goal.loop-i-preserved
-loop-i-preserved c = over_more (body_due c.args.bytes.now) c.loop-i.i c.loop-i.invariant ∙ c.in-ok-judge-body.ensures
+loop-i-preserved c = over_more (body_due c.args.bytes.now) c.loop-i.i c.loop-i.invariant ∙ c.in_ok-judge_body.ensures
 
 pub returns : goal.returns
 returns c = letters_none c.args.bytes.now c.loop-i.i c.loop-i.invariant (omega arith)

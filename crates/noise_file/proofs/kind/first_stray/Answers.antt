@@ -3,10 +3,10 @@ use Rattle.std.proofs.Common.{is_some, sym, ap, ◌∙◌}
 use Rattle.noise_file.proofs.Readings.{stray_here, stray_more}
 use Rattle.noise_file.proofs.kind.first_stray.Goals as goal
 
-pub returns-then-is-none : goal.returns-then-is-none
-returns-then-is-none g c =
-    stray_here g.K.Kind.coded c.args.letters.now c.loop-i.i c.loop-i-test.true c.loop-i.invariant (ap is_some (sym c.code.ensures) ∙ c.if-is-none.ensures)
+pub returns-then-is_none : goal.returns-then-is_none
+returns-then-is_none g c =
+    stray_here g.K.Kind.coded c.args.letters.now c.loop-i.i c.loop-i-test.true c.loop-i.invariant (ap is_some (sym c.code.ensures) ∙ c.if-is_none.ensures)
 
 pub loop-i-preserved : goal.loop-i-preserved
 loop-i-preserved g c =
-    stray_more g.K.Kind.coded c.args.letters.now c.loop-i.i c.loop-i.invariant (ap is_some (sym c.code.ensures) ∙ c.if-is-none.ensures)
+    stray_more g.K.Kind.coded c.args.letters.now c.loop-i.i c.loop-i.invariant (ap is_some (sym c.code.ensures) ∙ c.if-is_none.ensures)

@@ -4,7 +4,7 @@ use Rattle.std.proofs.lemmas.Bool.{cond-true, cond-false}
 use Rattle.extractors.specs.Bits.{byte}
 use Rattle.peres.specs.Pairwise.{flag, reading_same, reading_other, reading_all}
 use Rattle.peres.proofs.parts.take_apart.Goals as goal
-use Rattle.peres.proofs.parts.take_apart.Goals.{then-a-b, else-a-b, then-a-b-2+in-ok-push-2, else-a-b-2, then-b-a, else-b-a}
+use Rattle.peres.proofs.parts.take_apart.Goals.{then-a-b, else-a-b, then-a-b-2+in_ok-push-2, else-a-b-2, then-b-a, else-b-a}
 
 pub loop-i-preserved : goal.loop-i-preserved
 loop-i-preserved c =
@@ -19,10 +19,10 @@ loop-i-preserved c =
       | then-a-b w ↦ w.push-is ∙ sym (cond-false {A = ℕ} _ 0 1 (ne_eqb _ _ w.if-a-b.true))
       | else-a-b w ↦ w.push-is ∙ sym (cond-true {A = ℕ} _ 0 1 (eq-eqb _ _ w.if-a-b.false))
     ] in
-    let differs = c.in-ok-push.ensures.items ∙ ap (λ z. u ++ (z ∷ [])) flagged in
+    let differs = c.in_ok-push.ensures.items ∙ ap (λ z. u ++ (z ∷ [])) flagged in
     elim c.if-a-b-2.branch [
-      | then-a-b-2+in-ok-push-2 w ↦
-          rw (w.out-is, w.k-is) (reading_same x c.args.out.now i k c.loop-i.out u v c.loop-i.invariant h w.if-a-b-2.true _ _ differs (ap vec_items w.agreed-is ∙ w.in-ok-push-2.ensures.items))
+      | then-a-b-2+in_ok-push-2 w ↦
+          rw (w.out-is, w.k-is) (reading_same x c.args.out.now i k c.loop-i.out u v c.loop-i.invariant h w.if-a-b-2.true _ _ differs (ap vec_items w.agreed-is ∙ w.in_ok-push-2.ensures.items))
       | else-a-b-2 w ↦
           let bit : w.if-b-a.out ≡ byte (ltb (get_or x (i + 1) 0) (get_or x i 0)) =
           elim w.if-b-a.branch [

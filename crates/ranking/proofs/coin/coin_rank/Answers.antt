@@ -7,8 +7,8 @@ use Rattle.ranking.specs.CoinScan.{coin_size, coin_rank_fits, turn_one, turn_zer
 use Rattle.ranking.proofs.coin.coin_rank.Goals.{then-coin-eq1, else-coin-eq1}
 use Rattle.ranking.proofs.coin.coin_rank.Goals as goal
 
-pub overflow-add-rank : goal.overflow-add-rank
-overflow-add-rank c =
+pub overflow_add-rank : goal.overflow_add-rank
+overflow_add-rank c =
     let s = c.args.block.now in
     let i = c.loop-coin.coin-index in
     let k = turn_one s i (omega arith) c.requires.coins c.if-coin-eq1.true in
@@ -17,8 +17,8 @@ overflow-add-rank c =
     let e = ap₂ choose n c.loop-coin.invariant.1 in
     omega arith
 
-pub overflow-sub-left : goal.overflow-sub-left
-overflow-sub-left c =
+pub overflow_sub-left : goal.overflow_sub-left
+overflow_sub-left c =
     let k = turn_one c.args.block.now c.loop-coin.coin-index (omega arith) c.requires.coins c.if-coin-eq1.true in
     omega arith
 

@@ -4,22 +4,22 @@ use Rattle.std.specs.Slice.Iter.{chunks_rest, chunks_size}
 use Rattle.ranking.proofs.BlockWriting.{block_codes, block_short, block_room, tray_room, writing_more}
 use Rattle.ranking.proofs.coin.write_blocks.Goals as goal
 
-pub coin-rank-rank-requires : goal.coin-rank-rank-requires
-coin-rank-rank-requires c =
+pub coin_rank-rank-requires : goal.coin_rank-rank-requires
+coin_rank-rank-requires c =
     let h = c.in-Some.ensures.steps in
     let few = block_short (2) c.args.b c.args.recording.now c.args.tray.now (chunks_rest c.loop-block.block-iterator) c.in-Some.block.now (chunks_rest c.next.new.self) c.loop-block.given c.loop-block.tray (chunks_size c.loop-block.block-iterator) (omega arith, omega arith) c.requires.some c.loop-block.invariant.3 c.loop-block.invariant.2 h.1.0 h.1.1 in
     record { short = omega arith; coins = block_codes (2) c.args.b c.args.recording.now c.args.tray.now (chunks_rest c.loop-block.block-iterator) c.in-Some.block.now (chunks_rest c.next.new.self) c.loop-block.given c.loop-block.tray (chunks_size c.loop-block.block-iterator) (omega arith, omega arith) c.requires.some c.loop-block.invariant.3 c.loop-block.invariant.2 h.1.0 h.1.1 }
 
-pub write-rank-bits-given-requires : goal.write-rank-bits-given-requires
-write-rank-bits-given-requires c =
+pub write_rank_bits-given-requires : goal.write_rank_bits-given-requires
+write_rank_bits-given-requires c =
     let h = c.in-Some.ensures.steps in
-    tray_room (2) c.args.b c.args.recording.now c.args.tray.now (chunks_rest c.loop-block.block-iterator) c.in-Some.block.now (chunks_rest c.next.new.self) c.loop-block.given c.loop-block.tray (chunks_size c.loop-block.block-iterator) (omega arith, omega arith) c.requires.some c.loop-block.invariant.3 c.loop-block.invariant.2 h.1.0 h.1.1 c.coin-rank-rank.result.1 c.coin-rank-rank.result.0 c.coin-rank-rank.ensures.sized c.coin-rank-rank.ensures.ranked
+    tray_room (2) c.args.b c.args.recording.now c.args.tray.now (chunks_rest c.loop-block.block-iterator) c.in-Some.block.now (chunks_rest c.next.new.self) c.loop-block.given c.loop-block.tray (chunks_size c.loop-block.block-iterator) (omega arith, omega arith) c.requires.some c.loop-block.invariant.3 c.loop-block.invariant.2 h.1.0 h.1.1 c.coin_rank-rank.result.1 c.coin_rank-rank.result.0 c.coin_rank-rank.ensures.sized c.coin_rank-rank.ensures.ranked
 
-pub overflow-add-given : goal.overflow-add-given
-overflow-add-given c =
+pub overflow_add-given : goal.overflow_add-given
+overflow_add-given c =
     let h = c.in-Some.ensures.steps in
-    let room = block_room (2) c.args.b c.args.recording.now c.args.tray.now (chunks_rest c.loop-block.block-iterator) c.in-Some.block.now (chunks_rest c.next.new.self) c.loop-block.given c.loop-block.tray (chunks_size c.loop-block.block-iterator) (omega arith, omega arith) c.requires.some c.loop-block.invariant.3 c.loop-block.invariant.2 h.1.0 h.1.1 c.coin-rank-rank.result.1 c.coin-rank-rank.result.0 c.coin-rank-rank.ensures.sized c.coin-rank-rank.ensures.ranked in
-    omega (arith, c.write-rank-bits-given.ensures.0)
+    let room = block_room (2) c.args.b c.args.recording.now c.args.tray.now (chunks_rest c.loop-block.block-iterator) c.in-Some.block.now (chunks_rest c.next.new.self) c.loop-block.given c.loop-block.tray (chunks_size c.loop-block.block-iterator) (omega arith, omega arith) c.requires.some c.loop-block.invariant.3 c.loop-block.invariant.2 h.1.0 h.1.1 c.coin_rank-rank.result.1 c.coin_rank-rank.result.0 c.coin_rank-rank.ensures.sized c.coin_rank-rank.ensures.ranked in
+    omega (arith, c.write_rank_bits-given.ensures.0)
 
 pub loop-block-preserved : goal.loop-block-preserved
 loop-block-preserved c =

@@ -10,8 +10,8 @@ use Rattle.ranking.proofs.group.write_rank_bits.Goals as goal
 pub loop-a-init : goal.loop-a-init
 loop-a-init c = (sym (rank_bits_start c.args.size c.args.rank), refl)
 
-pub write-bits-requires : goal.write-bits-requires
-write-bits-requires c =
+pub write_bits-requires : goal.write_bits-requires
+write_bits-requires c =
     let a = c.loop-a.a in
     let p : (1 * 2 ^ (a - 1)) % 2 ^ 64 ≡ 2 ^ (a - 1) = one_shl (a - 1) 64 (omega arith) in
     let g = turn_here a c.loop-a.left c.loop-a.position (omega arith) (omega arith) (omega arith) in

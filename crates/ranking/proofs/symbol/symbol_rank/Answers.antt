@@ -24,33 +24,33 @@ loop-i-init c =
 pub bounds-counts-code : goal.bounds-counts-code
 bounds-counts-code c = (turn c.args.size c.args.block.now c.loop-i.i c.loop-i.counts c.loop-i.arrangements c.loop-i.rest c.loop-i.rank c.requires.sized c.requires.short c.requires.codes (omega arith) (omega arith) c.loop-i.invariant).code
 
-pub overflow-add-own : goal.overflow-add-own
-overflow-add-own c = let t = turn c.args.size c.args.block.now c.loop-i.i c.loop-i.counts c.loop-i.arrangements c.loop-i.rest c.loop-i.rank c.requires.sized c.requires.short c.requires.codes (omega arith) (omega arith) c.loop-i.invariant in omega arith
+pub overflow_add-own : goal.overflow_add-own
+overflow_add-own c = let t = turn c.args.size c.args.block.now c.loop-i.i c.loop-i.counts c.loop-i.arrangements c.loop-i.rest c.loop-i.rank c.requires.sized c.requires.short c.requires.codes (omega arith) (omega arith) c.loop-i.invariant in omega arith
 
-pub bounds-counts-code-in-loop-i : goal.bounds-counts-code-in-loop-i
-bounds-counts-code-in-loop-i c = (turn c.args.size c.args.block.now c.loop-i.i c.loop-i.counts c.loop-i.arrangements c.loop-i.rest c.loop-i.rank c.requires.sized c.requires.short c.requires.codes (omega arith) (omega arith) c.loop-i.invariant).code
+pub bounds-counts-code_in-loop-i : goal.bounds-counts-code_in-loop-i
+bounds-counts-code_in-loop-i c = (turn c.args.size c.args.block.now c.loop-i.i c.loop-i.counts c.loop-i.arrangements c.loop-i.rest c.loop-i.rank c.requires.sized c.requires.short c.requires.codes (omega arith) (omega arith) c.loop-i.invariant).code
 
-pub overflow-add-rest : goal.overflow-add-rest
-overflow-add-rest c = let t = turn c.args.size c.args.block.now c.loop-i.i c.loop-i.counts c.loop-i.arrangements c.loop-i.rest c.loop-i.rank c.requires.sized c.requires.short c.requires.codes (omega arith) (omega arith) c.loop-i.invariant in omega arith
+pub overflow_add-rest : goal.overflow_add-rest
+overflow_add-rest c = let t = turn c.args.size c.args.block.now c.loop-i.i c.loop-i.counts c.loop-i.arrangements c.loop-i.rest c.loop-i.rank c.requires.sized c.requires.short c.requires.codes (omega arith) (omega arith) c.loop-i.invariant in omega arith
 
-pub overflow-mul-arrangements : goal.overflow-mul-arrangements
-overflow-mul-arrangements c = let t = turn c.args.size c.args.block.now c.loop-i.i c.loop-i.counts c.loop-i.arrangements c.loop-i.rest c.loop-i.rank c.requires.sized c.requires.short c.requires.codes (omega arith) (omega arith) c.loop-i.invariant in omega arith
+pub overflow_mul-arrangements : goal.overflow_mul-arrangements
+overflow_mul-arrangements c = let t = turn c.args.size c.args.block.now c.loop-i.i c.loop-i.counts c.loop-i.arrangements c.loop-i.rest c.loop-i.rank c.requires.sized c.requires.short c.requires.codes (omega arith) (omega arith) c.loop-i.invariant in omega arith
 
-pub sum-below-requires : goal.sum-below-requires
-sum-below-requires c =
+pub sum_below-requires : goal.sum_below-requires
+sum_below-requires c =
     let t = turn c.args.size c.args.block.now c.loop-i.i c.loop-i.counts c.loop-i.arrangements c.loop-i.rest c.loop-i.rank c.requires.sized c.requires.short c.requires.codes (omega arith) (omega arith) c.loop-i.invariant in
     record { within = omega arith; fits = omega arith }
 
-pub overflow-mul-rank : goal.overflow-mul-rank
-overflow-mul-rank c =
+pub overflow_mul-rank : goal.overflow_mul-rank
+overflow_mul-rank c =
     let t = turn c.args.size c.args.block.now c.loop-i.i c.loop-i.counts c.loop-i.arrangements c.loop-i.rest c.loop-i.rank c.requires.sized c.requires.short c.requires.codes (omega arith) (omega arith) c.loop-i.invariant in
-    let e = ap (λ k. c.loop-i.arrangements * (c.loop-i.rest + 1) / (get_or c.loop-i.counts (get_or c.args.block.now (c.loop-i.i - 1) 0) 0 + 1) * k) c.sum-below.ensures in
+    let e = ap (λ k. c.loop-i.arrangements * (c.loop-i.rest + 1) / (get_or c.loop-i.counts (get_or c.args.block.now (c.loop-i.i - 1) 0) 0 + 1) * k) c.sum_below.ensures in
     omega arith
 
-pub overflow-add-rank : goal.overflow-add-rank
-overflow-add-rank c =
+pub overflow_add-rank : goal.overflow_add-rank
+overflow_add-rank c =
     let t = turn c.args.size c.args.block.now c.loop-i.i c.loop-i.counts c.loop-i.arrangements c.loop-i.rest c.loop-i.rank c.requires.sized c.requires.short c.requires.codes (omega arith) (omega arith) c.loop-i.invariant in
-    let e = ap (λ k. c.loop-i.arrangements * (c.loop-i.rest + 1) / (get_or c.loop-i.counts (get_or c.args.block.now (c.loop-i.i - 1) 0) 0 + 1) * k / (c.loop-i.rest + 1)) c.sum-below.ensures in
+    let e = ap (λ k. c.loop-i.arrangements * (c.loop-i.rest + 1) / (get_or c.loop-i.counts (get_or c.args.block.now (c.loop-i.i - 1) 0) 0 + 1) * k / (c.loop-i.rest + 1)) c.sum_below.ensures in
     omega arith
 
 pub loop-i-preserved : goal.loop-i-preserved

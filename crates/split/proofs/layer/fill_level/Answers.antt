@@ -6,21 +6,21 @@ use Rattle.split.specs.SplitRule.{node}
 use Rattle.split.proofs.Noding.{taken_more, node_room, node_recorded, gathered, part_fits}
 use Rattle.split.proofs.layer.fill_level.Goals as goal
 
-pub overflow-add-at : goal.overflow-add-at
-overflow-add-at g c =
-    let l = c.len.ensures ∙ c.in-ok-coins.coins.ok.0 ∙ ap length c.in-ok-coins.ensures in
+pub overflow_add-at : goal.overflow_add-at
+overflow_add-at g c =
+    let l = c.len.ensures ∙ c.in_ok-coins.coins.ok.0 ∙ ap length c.in_ok-coins.ensures in
     omega (arith, node_room c.args.w c.args.d c.loop-lead.lead c.args.codes.now c.loop-lead.at c.len.result c.loop-lead.invariant.1 l)
 
-pub slice-bounds-fill-node-end : goal.slice-bounds-fill-node-end
-slice-bounds-fill-node-end g c =
-    let l = c.len.ensures ∙ c.in-ok-coins.coins.ok.0 ∙ ap length c.in-ok-coins.ensures in
+pub slice_bounds-fill_node-end : goal.slice_bounds-fill_node-end
+slice_bounds-fill_node-end g c =
+    let l = c.len.ensures ∙ c.in_ok-coins.coins.ok.0 ∙ ap length c.in_ok-coins.ensures in
     omega (arith, node_room c.args.w c.args.d c.loop-lead.lead c.args.codes.now c.loop-lead.at c.len.result c.loop-lead.invariant.1 l)
 
-pub fill-node-requires : goal.fill-node-requires
-fill-node-requires g c =
+pub fill_node-requires : goal.fill_node-requires
+fill_node-requires g c =
     let n = node c.args.w c.args.d c.loop-lead.lead c.args.codes.now in
-    let is : c.deref.result.now ≡ n = c.deref.ensures.value ∙ c.in-ok-coins.ensures in
-    let l : c.len.result ≡ length n = c.len.ensures ∙ c.in-ok-coins.coins.ok.0 ∙ ap length c.in-ok-coins.ensures in
+    let is : c.deref.result.now ≡ n = c.deref.ensures.value ∙ c.in_ok-coins.ensures in
+    let l : c.len.result ≡ length n = c.len.ensures ∙ c.in_ok-coins.coins.ok.0 ∙ ap length c.in_ok-coins.ensures in
     let same = ap length is in
     let room = node_room c.args.w c.args.d c.loop-lead.lead c.args.codes.now c.loop-lead.at c.len.result c.loop-lead.invariant.1 l in
     record {
@@ -28,11 +28,11 @@ fill-node-requires g c =
       room = omega (arith, length-take (c.loop-lead.at + c.len.result - c.loop-lead.at) (drop c.loop-lead.at c.loop-lead.out), length-drop c.loop-lead.at c.loop-lead.out);
     }
 
-pub overflow-add-at-in-loop-lead : goal.overflow-add-at-in-loop-lead
-overflow-add-at-in-loop-lead g c =
+pub overflow_add-at-in-loop-lead : goal.overflow_add-at-in-loop-lead
+overflow_add-at-in-loop-lead g c =
     let s = g.E.CoinExtractor.gives c.args.below.now c.deref.result.now in
-    let l = c.len.ensures ∙ c.in-ok-coins.coins.ok.0 ∙ ap length c.in-ok-coins.ensures in
-    let n = part_fits s c.loop-lead.out c.fill-node.new.out c.loop-lead.at c.in-ok-at.field-0 c.len.result c.in-ok-at.ensures c.fill-node.auto.out in
+    let l = c.len.ensures ∙ c.in_ok-coins.coins.ok.0 ∙ ap length c.in_ok-coins.ensures in
+    let n = part_fits s c.loop-lead.out c.fill_node.new.out c.loop-lead.at c.in_ok-at.field-0 c.len.result c.in_ok-at.ensures c.fill_node.auto.out in
     omega (arith, node_room c.args.w c.args.d c.loop-lead.lead c.args.codes.now c.loop-lead.at c.len.result c.loop-lead.invariant.1 l)
 
 pub loop-lead-preserved : goal.loop-lead-preserved

@@ -8,7 +8,7 @@ use Rattle.well.proofs.key.pack.Goals as goal
 pub loop-i-preserved : goal.loop-i-preserved
 loop-i-preserved c =
     let i = c.loop-i.i in
-    key_more c.loop-i.key c.args.bits.now i (8 * i + 8 - 8 * i) c.pack-byte.result (omega arith) (omega arith) c.loop-i.invariant c.pack-byte.ensures
+    key_more c.loop-i.key c.args.bits.now i (8 * i + 8 - 8 * i) c.pack_byte.result (omega arith) (omega arith) c.loop-i.invariant c.pack_byte.ensures
 
 pub returns : goal.returns
 returns c =

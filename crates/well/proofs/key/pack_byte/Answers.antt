@@ -6,11 +6,11 @@ use Rattle.well.specs.Packing.{value}
 use Rattle.well.proofs.Packs.{value_more, front_small, below_two}
 use Rattle.well.proofs.key.pack_byte.Goals as goal
 
-pub overflow-mul-byte : goal.overflow-mul-byte
-overflow-mul-byte c = omega (arith, front_small c.args.bits.now c.loop-i.i (omega arith) (omega arith))
+pub overflow_mul-byte : goal.overflow_mul-byte
+overflow_mul-byte c = omega (arith, front_small c.args.bits.now c.loop-i.i (omega arith) (omega arith))
 
-pub overflow-add-byte : goal.overflow-add-byte
-overflow-add-byte c =
+pub overflow_add-byte : goal.overflow_add-byte
+overflow_add-byte c =
     omega (arith, front_small c.args.bits.now c.loop-i.i (omega arith) (omega arith), below_two _ _ c.from.ensures)
 
 pub loop-i-preserved : goal.loop-i-preserved

@@ -12,15 +12,15 @@ fill-requires g c =
     let t = ap (λ v. v * length c.args.recording.now) c.width.ensures.value in
     record { sized = j.sized; recorded = j.recording; room = omega (arith, t, c.in_ok-scratch.ensures.len, c.deref_mut.ensures.len) }
 
-pub slice-bounds-copy-from-slice-end : goal.slice-bounds-copy-from-slice-end
-slice-bounds-copy-from-slice-end g c =
-    let j = sound c.args.size c.args.recording.now (length c.args.tray.now) c.in-ok-judge.ensures in
+pub slice_bounds-copy_from_slice-end : goal.slice_bounds-copy_from_slice-end
+slice_bounds-copy_from_slice-end g c =
+    let j = sound c.args.size c.args.recording.now (length c.args.tray.now) c.in_ok-judge.ensures in
     let t = ap (λ v. v * length c.args.recording.now) c.width.ensures.value in
-    omega (arith, yield_fits _ _ _ _ c.in-ok-n.ensures c.fill.auto.scratch, j.room, t, c.in-ok-scratch.ensures.len, c.deref-mut.ensures.len)
+    omega (arith, yield_fits _ _ _ _ c.in_ok-n.ensures c.fill.auto.scratch, j.room, t, c.in_ok-scratch.ensures.len, c.deref_mut.ensures.len)
 
-pub slice-bounds-copy-from-slice-end-2 : goal.slice-bounds-copy-from-slice-end-2
-slice-bounds-copy-from-slice-end-2 g c =
-    omega (arith, yield_fits _ _ _ _ c.in-ok-n.ensures c.fill.auto.scratch, c.deref-mut.ensures.len, c.deref.ensures.len)
+pub slice_bounds-copy_from_slice-end-2 : goal.slice_bounds-copy_from_slice-end-2
+slice_bounds-copy_from_slice-end-2 g c =
+    omega (arith, yield_fits _ _ _ _ c.in_ok-n.ensures c.fill.auto.scratch, c.deref_mut.ensures.len, c.deref.ensures.len)
 
 pub returns : goal.returns
 returns g c =
@@ -30,6 +30,6 @@ returns g c =
       c.in_ok-judge.ensures,
       (
         w.0,
-        copied s c.deref_mut.result.now c.fill.new.scratch c.in_ok-scratch.scratch.items c.deref.result.now c.args.tray.now c.copy-from-slice.new.self c.in_ok-n.n c.in_ok-scratch.scratch.len w (c.fill.auto.scratch ∙ c.deref_mut.ensures.len) c.deref.ensures.value c.copy-from-slice.ensures.after,
+        copied s c.deref_mut.result.now c.fill.new.scratch c.in_ok-scratch.scratch.items c.deref.result.now c.args.tray.now c.copy_from_slice.new.self c.in_ok-n.n c.in_ok-scratch.scratch.len w (c.fill.auto.scratch ∙ c.deref_mut.ensures.len) c.deref.ensures.value c.copy_from_slice.ensures.after,
       ),
     )

@@ -3,4 +3,4 @@ use Rattle.noise_file.proofs.Files.{open_accepted}
 use Rattle.noise_file.proofs.file.NoiseFile.entry.Goals as goal
 
 pub numbered-requires : goal.numbered-requires
-numbered-requires c = simp c.as-slice.ensures.value (open_accepted _ c.args.self.now.opened)
+numbered-requires c = simp c.as_slice.ensures.value (open_accepted _ c.args.self.now.opened)

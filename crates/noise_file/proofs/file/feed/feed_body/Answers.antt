@@ -19,9 +19,9 @@ refused_below m n k f p letters codes given s s' e r read size same step is =
     let step' : Step s (feed p m codes k) (refused e) s' = subst (λ c. Step s (feed p m c k) (refused e) s') same (subst (λ v. Step s (feed p v given k) (refused e) s') size step) in
     subst (λ a. Fed m f p letters k s a s') (sym is) (record { codes = codes; read = read; step = step' })
 
-pub returns-in-err-answer : goal.returns-in-err-answer
-returns-in-err-answer g c =
-    let q = err_from_is_err_and c.from-residual-in-err-answer.result c.from-residual-in-err-answer.ensures.1 in
-    refused_below g.K.Kind.sized c.alphabet.result (length c.args.tray.now) g.K.Kind.coded (pile_of c.args.body.tower) c.args.body.letters.now (vec_items c.in-ok-codes.codes) c.deref.result.now
-    (state c.args.well.now) (state c.feed.new.well) c.in-err-answer.field-0.0 c.from-residual-in-err-answer.result
-    c.in-ok-codes.ensures c.alphabet.ensures c.deref.ensures.value c.in-err-answer.ensures.step (q.1 ∙ ap Err q.2)
+pub returns-in_err-answer : goal.returns-in_err-answer
+returns-in_err-answer g c =
+    let q = err_from_is_err_and c.from_residual-in_err-answer.result c.from_residual-in_err-answer.ensures.1 in
+    refused_below g.K.Kind.sized c.alphabet.result (length c.args.tray.now) g.K.Kind.coded (pile_of c.args.body.tower) c.args.body.letters.now (vec_items c.in_ok-codes.codes) c.deref.result.now
+    (state c.args.well.now) (state c.feed.new.well) c.in_err-answer.field-0.0 c.from_residual-in_err-answer.result
+    c.in_ok-codes.ensures c.alphabet.ensures c.deref.ensures.value c.in_err-answer.ensures.step (q.1 ∙ ap Err q.2)

@@ -5,9 +5,9 @@ use Rattle.ranking.specs.GroupRule.{group_law}
 use Rattle.ranking.proofs.Making.{outside_refused, inside_accepted}
 use Rattle.ranking.proofs.coin.CoinRanking.new.Goals as goal
 
-pub returns-then-block-lt-LEAST-BLOCK : goal.returns-then-block-lt-LEAST-BLOCK
-returns-then-block-lt-LEAST-BLOCK c = record {
-  refuses = outside_refused 2 60 c.args.block c.then-block-lt-LEAST-BLOCK.either;
+pub returns-then-block-lt-LEAST_BLOCK : goal.returns-then-block-lt-LEAST_BLOCK
+returns-then-block-lt-LEAST_BLOCK c = record {
+  refuses = outside_refused 2 60 c.args.block c.then-block-lt-LEAST_BLOCK.either;
   value = tt;
   sizes = coin_size;
   groups_even = group_law;

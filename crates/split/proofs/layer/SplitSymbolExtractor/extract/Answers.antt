@@ -7,18 +7,18 @@ use Rattle.extractors.proofs.Writing.{yield_fits, copied}
 use Rattle.split.specs.SplitRule.{split}
 use Rattle.split.proofs.layer.SplitSymbolExtractor.extract.Goals as goal
 
-pub slice-bounds-copy-from-slice-end : goal.slice-bounds-copy-from-slice-end
-slice-bounds-copy-from-slice-end g c =
+pub slice_bounds-copy_from_slice-end : goal.slice_bounds-copy_from_slice-end
+slice_bounds-copy_from_slice-end g c =
     let x = c.args.recording.now in
-    let room = (sound c.args.size x (length c.args.tray.now) c.in-ok-judge.ensures).room in
+    let room = (sound c.args.size x (length c.args.tray.now) c.in_ok-judge.ensures).room in
     let wide : c.width-w.result * length x ≤ length c.args.tray.now = subst (λ v. v * length x ≤ length c.args.tray.now) (sym c.width-w.ensures.value) room in
     let s = split c.width-w.result (g.E.CoinExtractor.gives c.args.self.now.below) x in
-    omega (arith, yield_fits s c.deref-mut.result.now c.fill.new.out c.in-ok-n.n c.in-ok-n.ensures c.fill.auto.out, c.in-ok-scratch.ensures.len, c.deref-mut.ensures.len)
+    omega (arith, yield_fits s c.deref_mut.result.now c.fill.new.out c.in_ok-n.n c.in_ok-n.ensures c.fill.auto.out, c.in_ok-scratch.ensures.len, c.deref_mut.ensures.len)
 
-pub slice-bounds-copy-from-slice-end-2 : goal.slice-bounds-copy-from-slice-end-2
-slice-bounds-copy-from-slice-end-2 g c =
+pub slice_bounds-copy_from_slice-end-2 : goal.slice_bounds-copy_from_slice-end-2
+slice_bounds-copy_from_slice-end-2 g c =
     let s = split c.width-w.result (g.E.CoinExtractor.gives c.args.self.now.below) c.args.recording.now in
-    omega (arith, yield_fits s c.deref-mut.result.now c.fill.new.out c.in-ok-n.n c.in-ok-n.ensures c.fill.auto.out, c.deref-mut.ensures.len, c.deref.ensures.len)
+    omega (arith, yield_fits s c.deref_mut.result.now c.fill.new.out c.in_ok-n.n c.in_ok-n.ensures c.fill.auto.out, c.deref_mut.ensures.len, c.deref.ensures.len)
 
 pub returns : goal.returns
 returns g c =
@@ -30,7 +30,7 @@ returns g c =
       c.in_ok-judge.ensures,
       (
         w.0,
-        copied s c.deref_mut.result.now c.fill.new.out c.in_ok-scratch.scratch.items c.deref.result.now c.args.tray.now c.copy-from-slice.new.self c.in_ok-n.n c.in_ok-scratch.scratch.len w (c.fill.auto.out ∙ c.deref_mut.ensures.len)
-            c.deref.ensures.value c.copy-from-slice.ensures.after,
+        copied s c.deref_mut.result.now c.fill.new.out c.in_ok-scratch.scratch.items c.deref.result.now c.args.tray.now c.copy_from_slice.new.self c.in_ok-n.n c.in_ok-scratch.scratch.len w (c.fill.auto.out ∙ c.deref_mut.ensures.len)
+            c.deref.ensures.value c.copy_from_slice.ensures.after,
       ),
     )

@@ -19,8 +19,8 @@ returns c =
     ] in
     record {
       appended =
-          ap (drop mid.start) c.push-bits.ensures.items
+          ap (drop mid.start) c.push_bits.ensures.items
           ∙ drop-append-le mid.start (vec_items mid.bits) f (omega arith)
           ∙ ap (λ z. z ++ f) same;
-      leans = to_z-of_z w32 c.push-bits.result (search rules) ∙ c.push-bits.ensures.leans;
+      leans = to_z-of_z w32 c.push_bits.result (search rules) ∙ c.push_bits.ensures.leans;
     }

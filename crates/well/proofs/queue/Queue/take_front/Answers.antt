@@ -6,25 +6,25 @@ use Rattle.well.specs.Packing.{packed, unpacked}
 use Rattle.well.proofs.Packs.{unpacked_packed}
 use Rattle.well.proofs.queue.Queue.take_front.Goals as goal
 
-pub overflow-mul-next : goal.overflow-mul-next
-overflow-mul-next c =
+pub overflow_mul-next : goal.overflow_mul-next
+overflow_mul-next c =
     let n = c.args.self.now.bits.ok.0 in
     omega (arith, length-drop c.args.self.now.start (vec_items c.args.self.now.bits))
 
-pub overflow-add-next : goal.overflow-add-next
-overflow-add-next c =
+pub overflow_add-next : goal.overflow_add-next
+overflow_add-next c =
     let n = c.args.self.now.bits.ok.0 in
     omega (arith, length-drop c.args.self.now.start (vec_items c.args.self.now.bits))
 
 pub pack-requires : goal.pack-requires
 pack-requires c =
     let n = c.args.self.now.bits.ok.0 in
-    let m = c.as-slice.ensures.len in
+    let m = c.as_slice.ensures.len in
     let p = length-drop c.args.self.now.start (vec_items c.args.self.now.bits) in
     simp (length-take, length-drop) (omega arith)
 
-pub invariant-of-self : goal.invariant-of-self
-invariant-of-self c =
+pub invariant_of-self : goal.invariant_of-self
+invariant_of-self c =
     let n = c.args.self.now.bits.ok.0 in
     (omega (arith, length-drop c.args.self.now.start (vec_items c.args.self.now.bits)), (c.args.self.now.few, (c.args.self.now.room, tt)))
 
@@ -32,9 +32,9 @@ pub returns : goal.returns
 returns c =
     let start = c.args.self.now.start in
     let k = length c.args.key.now in
-    let s = c.as-slice.result.now in
+    let s = c.as_slice.result.now in
     let old = held c.args.self.now in
-    let view : take (length s - start) (drop start s) ≡ old = take_rest s start ∙ ap (drop start) c.as-slice.ensures.value in
+    let view : take (length s - start) (drop start s) ≡ old = take_rest s start ∙ ap (drop start) c.as_slice.ensures.value in
     let full : c.pack.new.key ≡ packed k old = c.pack.ensures ∙ ap (packed k) view in
     record {
       filled = full;

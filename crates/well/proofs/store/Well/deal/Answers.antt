@@ -4,8 +4,8 @@ use Rattle.std.proofs.lemmas.List.{length-drop}
 use Rattle.well.specs.Held.{held}
 use Rattle.well.proofs.store.Well.deal.Goals as goal
 
-pub invariant-of-self : goal.invariant-of-self
-invariant-of-self c =
+pub invariant_of-self : goal.invariant_of-self
+invariant_of-self c =
     let k = length c.args.key.now in
-    let left : length (held c.take-front.new.self) ≡ length (held c.args.self.now.queue) - 8 * k = ap length c.take-front.ensures.rest ∙ length-drop (8 * k) (held c.args.self.now.queue) in
+    let left : length (held c.take_front.new.self) ≡ length (held c.args.self.now.queue) - 8 * k = ap length c.take_front.ensures.rest ∙ length-drop (8 * k) (held c.args.self.now.queue) in
     (omega arith, (omega arith, (omega arith, tt)))
