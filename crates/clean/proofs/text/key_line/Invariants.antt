@@ -4,4 +4,4 @@ use Rattle.clean.specs.Lines.{hexes}
 use Rattle.clean.proofs.text.key_line.Given as goal
 
 abbrev pub invariant-loop-byte : goal.invariant-loop-byte
-invariant-loop-byte l = string_bytes l.line ≡ codes "key " ++ hexes (take l.byte_index l.key)
+invariant-loop-byte l = string_bytes l.line ≡ codes "key " ++ hexes (take l.byte-index l.key)

@@ -24,7 +24,7 @@ overflow_add-given c =
 pub loop-block-preserved : goal.loop-block-preserved
 loop-block-preserved c =
     let h = c.in-Some.ensures.steps in (
-      tt,
+      omega (arith, h.0, c.loop-block.invariant.0),
       omega (arith, h.0, c.loop-block.invariant.1),
       omega (arith, h.0, c.loop-block.invariant.2),
       writing_more (2) c.args.b c.args.recording.now c.args.tray.now (chunks_rest c.loop-block.block-iterator) c.in-Some.block.now (chunks_rest c.next.new.self) c.loop-block.given c.loop-block.tray (chunks_size c.loop-block.block-iterator) (omega arith, omega arith) c.requires.some c.loop-block.invariant.3 c.loop-block.invariant.2 h.1.0 h.1.1 c.coin_rank-rank.result.1 c.coin_rank-rank.result.0 c.coin_rank-rank.ensures.sized c.coin_rank-rank.ensures.ranked (length c.loop-block.tray - c.loop-block.given) c.write_rank_bits-given.result c.write_rank_bits-given.new.tray c.write_rank_bits-given.ensures c.write_rank_bits-given.auto.tray,

@@ -27,8 +27,8 @@ bounds-counts-code c = (turn c.args.size c.args.block.now c.loop-i.i c.loop-i.co
 pub overflow_add-own : goal.overflow_add-own
 overflow_add-own c = let t = turn c.args.size c.args.block.now c.loop-i.i c.loop-i.counts c.loop-i.arrangements c.loop-i.rest c.loop-i.rank c.requires.sized c.requires.short c.requires.codes (omega arith) (omega arith) c.loop-i.invariant in omega arith
 
-pub bounds-counts-code_in-loop-i : goal.bounds-counts-code_in-loop-i
-bounds-counts-code_in-loop-i c = (turn c.args.size c.args.block.now c.loop-i.i c.loop-i.counts c.loop-i.arrangements c.loop-i.rest c.loop-i.rank c.requires.sized c.requires.short c.requires.codes (omega arith) (omega arith) c.loop-i.invariant).code
+pub bounds-counts-code-in-loop-i : goal.bounds-counts-code-in-loop-i
+bounds-counts-code-in-loop-i c = (turn c.args.size c.args.block.now c.loop-i.i c.loop-i.counts c.loop-i.arrangements c.loop-i.rest c.loop-i.rank c.requires.sized c.requires.short c.requires.codes (omega arith) (omega arith) c.loop-i.invariant).code
 
 pub overflow_add-rest : goal.overflow_add-rest
 overflow_add-rest c = let t = turn c.args.size c.args.block.now c.loop-i.i c.loop-i.counts c.loop-i.arrangements c.loop-i.rest c.loop-i.rank c.requires.sized c.requires.short c.requires.codes (omega arith) (omega arith) c.loop-i.invariant in omega arith

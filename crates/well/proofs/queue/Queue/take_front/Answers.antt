@@ -26,7 +26,11 @@ pack-requires c =
 pub invariant_of-self : goal.invariant_of-self
 invariant_of-self c =
     let n = c.args.self.now.bits.ok.0 in
-    (omega (arith, length-drop c.args.self.now.start (vec_items c.args.self.now.bits)), (c.args.self.now.few, (c.args.self.now.room, tt)))
+    record {
+      begun = omega (arith, length-drop c.args.self.now.start (vec_items c.args.self.now.bits));
+      few = c.args.self.now.few;
+      room = c.args.self.now.room;
+    }
 
 pub returns : goal.returns
 returns c =

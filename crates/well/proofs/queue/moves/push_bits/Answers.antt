@@ -10,7 +10,7 @@ use Rattle.well.proofs.queue.moves.push_bits.Goals.{then-byte-eq1, else-byte-eq1
 pub loop-byte-preserved : goal.loop-byte-preserved
 loop-byte-preserved c =
     let xs = c.args.tray.now in
-    let i = c.loop-byte.byte_index in
+    let i = c.loop-byte.byte-index in
     let q = items_more _ _ _ _ _ _ c.loop-byte.invariant.3 c.push_reserved.ensures.items (flags_more xs i c.loop-byte-test.true) in
     let n = c.push_reserved.ensures.len in
     let k = c.push_reserved.ensures.capacity ∙ c.loop-byte.invariant.5 in
@@ -21,7 +21,7 @@ loop-byte-preserved c =
 
 pub returns : goal.returns
 returns c =
-    let a : take c.loop-byte.byte_index c.args.tray.now ≡ c.args.tray.now = take_all c.loop-byte.byte_index c.args.tray.now (omega arith) in
+    let a : take c.loop-byte.byte-index c.args.tray.now ≡ c.args.tray.now = take_all c.loop-byte.byte-index c.args.tray.now (omega arith) in
     record {
       items = c.loop-byte.invariant.3 ∙ ap (λ z. vec_items c.args.bits.now ++ flags z) a;
       leans = c.loop-byte.invariant.0 ∙ ap (λ z. lean (flags z)) a;

@@ -5,9 +5,9 @@ use Rattle.well.proofs.queue.moves.push_bits.Given as goal
 
 abbrev pub invariant-loop-byte : goal.invariant-loop-byte
 invariant-loop-byte l =
-    (l.sum ≡ lean (flags (take l.byte_index l.tray)))
-    × (l.sum ≤ℤ pos l.byte_index)
-    × (neg_ℤ (pos l.byte_index) ≤ℤ l.sum)
-    × (vec_items l.bits ≡ vec_items l.initial.bits ++ flags (take l.byte_index l.tray))
-    × (vec_len l.bits ≡ vec_len l.initial.bits + l.byte_index)
+    (l.sum ≡ lean (flags (take l.byte-index l.tray)))
+    × (l.sum ≤ℤ pos l.byte-index)
+    × (neg_ℤ (pos l.byte-index) ≤ℤ l.sum)
+    × (vec_items l.bits ≡ vec_items l.initial.bits ++ flags (take l.byte-index l.tray))
+    × (vec_len l.bits ≡ vec_len l.initial.bits + l.byte-index)
     × (vec_capacity l.bits ≡ vec_capacity l.initial.bits)

@@ -8,4 +8,4 @@ pub invariant_of-self : goal.invariant_of-self
 invariant_of-self c =
     let k = length c.args.key.now in
     let left : length (held c.take_front.new.self) ≡ length (held c.args.self.now.queue) - 8 * k = ap length c.take_front.ensures.rest ∙ length-drop (8 * k) (held c.args.self.now.queue) in
-    (omega arith, (omega arith, (omega arith, tt)))
+    record { limit = omega arith; balance = omega arith; drawn = omega arith }

@@ -30,7 +30,7 @@ invariant_of-self g c =
     let grown : length (held c.append-lean.new.self) ≡ length (held c.args.self.now.queue) + length b =
     ap length (c.append-lean.ensures.appended ∙ ap (λ z. held c.args.self.now.queue ++ z) front) ∙ length-append (held c.args.self.now.queue) b in
     let some : s.poured + y ≤ 16777216 = room_poured s y c.in_ok-judge_gain.ensures in
-    (omega arith, (omega (arith, h.1.0), (omega arith, tt)))
+    record { limit = omega arith; balance = omega (arith, h.1.0); drawn = omega arith }
 
 pub returns : goal.returns
 returns g c =
