@@ -11,7 +11,7 @@ returns-in-None g c = inl (ap (option_map Letter) (stray_here g.K.Kind.coded c.a
 
 pub loop-i-preserved : goal.loop-i-preserved
 loop-i-preserved g c =
-    let e = c.in_ok-push.ensures.items in
+    let e = c.in_ok-push-in-Some.ensures.items in
     let p = map_push Some (vec_items c.loop-i.codes) c.in-Some.code in
     let m = map_more g.K.Kind.coded c.args.letters.now c.loop-i.i 0 c.loop-i-test.true in
     let s = c.in-Some.ensures in
