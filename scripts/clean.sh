@@ -2,6 +2,6 @@
 # Cleans the noise file given: builds the program first, which proves it, where it is not built yet.
 set -euo pipefail
 file=$(realpath "$1")
-cd "$(dirname "$0")/.."
-[ -x target/bin/clean ] || rt check clean >&2
-target/bin/clean < "$file"
+cd "$(dirname "$0")/../crates/clean"
+[ -x out/clean ] || rt run < "$file" > /dev/null
+out/clean < "$file"

@@ -6,22 +6,22 @@ set -euo pipefail
 repository=$(cd "$(dirname "$0")/.." && pwd)
 copy=$(mktemp -d)
 trap 'rm -rf "$copy"' EXIT
-cp -r "$repository/crates" "$repository/crates.txt" "$copy"
-cd "$copy"
-sed -i 's/^pub mod slip;$/pub mod misuse;\n&/' crates/well/src/lib.rt
-grep -q '^pub mod misuse;$' crates/well/src/lib.rt
+tar -C "$repository" --exclude=out -c crates crates.txt | tar -C "$copy" -x
+cd "$copy/crates/well"
+sed -i 's/^pub mod slip;$/pub mod misuse;\n&/' src/lib.rt
+grep -q '^pub mod misuse;$' src/lib.rt
 
 # refused NAME ERROR: the source on standard input is refused by error[ERROR], and by nothing else
 refused() {
-    cat > crates/well/src/misuse.rt
-    if rt dev well > log 2>&1; then
+    cat > src/misuse.rt
+    if rt check > "$copy/log" 2>&1; then
         echo "slip misuse, $1: ACCEPTED"
         exit 1
     fi
-    found=$(grep -o 'error\[[^]]*\]' log | sort -u | tr '\n' ' ')
+    found=$(grep -o 'error\[[^]]*\]' "$copy/log" | sort -u | tr '\n' ' ')
     if [ "$found" != "error[$2] " ]; then
         echo "slip misuse, $1: expected error[$2], found: $found"
-        cat log
+        cat "$copy/log"
         exit 1
     fi
     echo "slip misuse, $1: refused by error[$2]"

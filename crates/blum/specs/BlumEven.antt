@@ -1,9 +1,9 @@
 -- The Blum layer is even on every Markov class, and so on every count class. Assumes nothing.
-use Rattle.std.specs.Prelude.{◌≡◌, ℕ, suc, ◌+◌, ◌*◌, ◌<◌, ◌≤◌, Bool, List, [], ◌∷◌, length, ◌==◌, refl}
-use Rattle.std.proofs.Common.{sym, ap, ap₂, subst, ◌∙◌, mul-zero, arith}
+use Rattle.std.specs.Prelude.{◌≡◌, ℕ, suc, ◌+◌, ◌<◌, ◌≤◌, Bool, List, [], ◌∷◌, length, ◌==◌, refl}
+use Rattle.std.proofs.Common.{sym, ap, ap₂, ◌∙◌, mul-zero, arith}
 use Rattle.std.proofs.lemmas.Bool.{ne_eqb}
 use Rattle.classes.specs.Counting.{one_if}
-use Rattle.classes.specs.Recordings.{Sized, Codes, Recording, width, count, final, first, last, steps}
+use Rattle.classes.specs.Recordings.{Sized, Codes, Recording, width, count, final}
 use Rattle.classes.specs.Classes.{CountLike, MarkovLike}
 use Rattle.classes.specs.Evenness.{Even, EvenChains}
 use Rattle.classes.specs.Exchange.{Exchange}
@@ -11,7 +11,6 @@ use Rattle.classes.proofs.Exchanges.{exchange_even, even_exchange}
 use Rattle.classes.proofs.Listings.{count_listing, markov_listing}
 use Rattle.classes.proofs.Yields.{yield_bound}
 use Rattle.extractors.specs.Lanes.{lane_from, kept, blum}
-use Rattle.extractors.specs.Bits.{gather}
 use Rattle.blum.specs.Totals.{total_same}
 use Rattle.extractors.proofs.Gathers.{gather_same, gather_none, gather_decides, parts, length_parts, gather_parts}
 use Rattle.blum.specs.Lanes.{codes_lane, lane_short, steps_lane, arrivals, codes_decide}

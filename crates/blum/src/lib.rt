@@ -1,4 +1,6 @@
 //! The Blum layer over any symbol extractor, and what the even law makes of a pile.
+#![tactic(auto)]
+
 pub mod layer;
 pub mod standing;
 #[cfg(test)]

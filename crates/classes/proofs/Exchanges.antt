@@ -1,10 +1,9 @@
 -- Partner exchange and the even law give each other, for every kind of class. Assumes nothing.
 use Rattle.std.proofs.Common.{◌≡◌, ℕ, zero, suc, ◌+◌, ◌<◌, ◌≤◌, Bool, true, false, cond, eqb, List, [], ◌∷◌, length, get_or, filter, sym, refl, ap, ◌∙◌, subst, ap₂, arith}
-use Rattle.std.specs.List.{AllByRecursion as All}
 use Rattle.std.proofs.ByRecursion.{kept_by_passes, all_kept_by, All-get_or}
 use Rattle.classes.specs.Counting.{add_up, tally, same_list, same_bits, times}
 use Rattle.classes.specs.Recordings.{Recording}
-use Rattle.classes.specs.Classes.{Listing, CountLike, MarkovLike}
+use Rattle.classes.specs.Classes.{Listing}
 use Rattle.classes.specs.Evenness.{EvenOver}
 use Rattle.classes.specs.Exchange.{Exchange, ExchangeIsEven}
 use Rattle.classes.proofs.Counts.{bits_true, bits_self, bits_eq, word_true, word_self, word_eq, add_up_same, add_up_zero, add_up_swap, length_kept, times_kept}

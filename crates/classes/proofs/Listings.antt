@@ -1,12 +1,12 @@
 -- Every class has a list of its members, each once. Assumes nothing.
-use Rattle.std.proofs.Common.{◌≡◌, ℕ, zero, suc, ◌+◌, ◌<◌, ◌≤◌, Bool, true, false, cond, ◌&&◌, eqb, ltb, ◌⊎◌, List, [], ◌∷◌, ◌++◌, map, length, Decides, filter, sym, refl, ap, ◌∙◌, subst, ap₂, inl, inr, arith}
+use Rattle.std.proofs.Common.{◌≡◌, ℕ, zero, suc, ◌+◌, ◌<◌, ◌≤◌, Bool, true, false, cond, ◌&&◌, eqb, ltb, ◌⊎◌, List, [], ◌∷◌, map, length, Decides, filter, sym, refl, ap, ◌∙◌, ap₂, inl, inr, arith}
 use mathlib.Core.Path.{fun_ext}
 use Rattle.std.specs.List.{AllByRecursion as All}
 use Rattle.std.proofs.lemmas.Bool.Decides.{nat_tests, Decides-eqb, Decides-and, Decides-below_and}
 use Rattle.std.proofs.ByRecursion.{kept_by_passes, all_kept_by, All-weaker, All-append, All-map}
 use Rattle.std.proofs.lemmas.Bool.{cond-true, lt-ltb, cases_lt}
 use Rattle.classes.specs.Counting.{one_if, add_up, same_list, times}
-use Rattle.classes.specs.Recordings.{Codes, Recording, count, final, steps_from, first, last, steps}
+use Rattle.classes.specs.Recordings.{Codes, Recording, count, steps_from, first, last, steps}
 use Rattle.classes.specs.Classes.{led_below, words, CountLike, MarkovLike, agree, agree_rows, same_counts, same_chain, count_class, markov_class, Listing}
 use Rattle.classes.proofs.Counts.{add_up_append, add_up_map, add_up_zero, times_kept}
 

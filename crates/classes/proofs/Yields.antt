@@ -1,5 +1,5 @@
 -- What is even gives at most the width times the length: a class has room for no more. Assumes nothing.
-use Rattle.std.proofs.Common.{◌≡◌, ℕ, zero, suc, ◌+◌, ◌*◌, ◌^◌, ◌<◌, ◌≤◌, Bool, true, false, cond, ◌&&◌, eqb, List, [], ◌∷◌, ◌++◌, map, length, filter, sym, refl, ap, ◌∙◌, subst, ap₂, ⊎_elim, suc-mul, pow-suc, mul-zero, mul-suc, arith, length-append, pow-add}
+use Rattle.std.proofs.Common.{◌≡◌, ℕ, zero, suc, ◌+◌, ◌*◌, ◌^◌, ◌<◌, ◌≤◌, Bool, true, false, eqb, List, [], ◌∷◌, ◌++◌, map, length, sym, refl, ap, ◌∙◌, subst, ap₂, ⊎_elim, suc-mul, pow-suc, mul-zero, mul-suc, arith, length-append, pow-add}
 use native.Mathlib.Nat.{pow-zero, pow-succ', pow-le-pow_left}
 use lib.ListN.{length-map}
 use lib.Pow.{pow-lt}
@@ -7,10 +7,10 @@ use Rattle.std.specs.List.{AllByRecursion as All}
 use Rattle.std.proofs.ByRecursion.{All-append, All-map, All-weaker}
 use Rattle.std.proofs.lemmas.Bool.{cases_lt}
 use Rattle.classes.specs.Counting.{one_if, add_up, tally, same_list, same_bits, times}
-use Rattle.classes.specs.Recordings.{Recording, Sized, width}
+use Rattle.classes.specs.Recordings.{width}
 use Rattle.classes.specs.Classes.{led_below, words, same_counts, count_class}
-use Rattle.classes.specs.Evenness.{EvenOn, Even, YieldBound}
-use Rattle.classes.proofs.Counts.{word_true, bits_self, add_up_same, add_up_le, add_up_zero, add_up_one, add_up_append, add_up_map, add_up_swap, all_of, tally_le_length, length_kept}
+use Rattle.classes.specs.Evenness.{EvenOn, YieldBound}
+use Rattle.classes.proofs.Counts.{word_true, bits_self, add_up_le, add_up_zero, add_up_one, add_up_append, add_up_map, add_up_swap, all_of, tally_le_length, length_kept}
 use Rattle.classes.proofs.Listings.{count_listing}
 use Rattle.classes.proofs.Widths.{width_least}
 

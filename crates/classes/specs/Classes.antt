@@ -4,7 +4,7 @@
 --   markov_class   the recordings of the size with the first code, the last code and the steps
 --   CountLike, MarkovLike   what it means to be in the class of x
 --   Listing        the members of each class are exactly those alike, each listed once
-use Rattle.std.specs.Prelude.{◌≡◌, ℕ, zero, suc, Bool, true, cond, ◌&&◌, List, [], ◌∷◌, ◌++◌, map, length, filter, ◌==◌}
+use Rattle.std.specs.Prelude.{◌≡◌, ℕ, zero, suc, Bool, true, ◌&&◌, List, [], ◌∷◌, ◌++◌, map, length, filter, ◌==◌}
 use Rattle.std.specs.List.{AllByRecursion as All}
 use Rattle.classes.specs.Counting.{times}
 use Rattle.classes.specs.Recordings.{Codes, Recording, count, first, last, steps}

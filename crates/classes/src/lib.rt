@@ -1,4 +1,6 @@
 //! The classes of a recording and the even law on them: mathematics, proved once for every extractor.
+#![tactic(auto)]
+
 ghost use Rattle.std.specs.Prelude.{◌≡◌, ℕ};
 ghost use Rattle.classes.specs.Classes.{CountLike, Listing, MarkovLike, count_class, markov_class};
 ghost use Rattle.classes.specs.Exchange.{ExchangeIsEven};

@@ -1,4 +1,6 @@
 //! The cleaning program: a noise file on standard input, the figures of its entries and the keys on standard output.
+#![tactic(auto)]
+
 mod deal;
 mod fault;
 #[cfg(test)]

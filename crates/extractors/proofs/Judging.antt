@@ -1,10 +1,10 @@
 -- The refusals of an extractor: the first stray code as a loop finds it, and what a call that nothing refuses was given. Assumes nothing.
-use Rattle.std.proofs.Common.{◌≡◌, ℕ, suc, ◌+◌, ◌*◌, ◌<◌, ◌≤◌, List, [], ◌∷◌, length, get_or, drop, Some, None, Option, sym, refl, ap, ◌∙◌, subst, ⊎_elim, arith, le-ltb, lt-ltb}
+use Rattle.std.proofs.Common.{◌≡◌, ℕ, suc, ◌+◌, ◌*◌, ◌<◌, ◌≤◌, List, [], ◌∷◌, length, get_or, drop, Some, None, Option, sym, ap, ◌∙◌, subst, ⊎_elim, arith, le-ltb, lt-ltb}
 use Rattle.std.proofs.lemmas.List.{drop_more, drop_all}
 use Rattle.std.proofs.lemmas.Bool.{cond-true, cond-false, cases_lt}
 use Rattle.classes.specs.Recordings.{Sized, Codes, Recording, width}
 use Rattle.extractors.specs.declared.fault.ExtractorFault.{ExtractorFault}
-use Rattle.extractors.specs.declared.fault.ExtractorFault.TheVariants.{Size, Length, Code, Tray, Memory}
+use Rattle.extractors.specs.declared.fault.ExtractorFault.TheVariants.{Size, Code, Tray, Memory}
 use Rattle.extractors.specs.Calls.{first_stray, due_sized, due, RefusedAs}
 
 -- THE LOOP

@@ -2,7 +2,7 @@
 --   lane     the code after each visit to a state, in order
 --   kept     the lane without its last exit; the lane of the recording's last code is kept whole
 --   blum     the bits of the kept lanes
-use Rattle.std.specs.Prelude.{ℕ, Bool, true, false, cond, List, [], ◌∷◌, ◌==◌}
+use Rattle.std.specs.Prelude.{ℕ, Bool, cond, List, [], ◌∷◌, ◌==◌}
 use Rattle.classes.specs.Recordings.{last}
 use Rattle.extractors.specs.Bits.{gather}
 

@@ -1,12 +1,11 @@
 -- Pairs, and no bits at all, are even on every count class. Assumes nothing.
-use Rattle.std.specs.Prelude.{◌≡◌, ℕ, suc, ◌+◌, ◌<◌, ◌≤◌, Bool, true, false, cond, not, ltb, List, [], ◌∷◌, length, ◌==◌, nat_eq, nat_lt, refl}
+use Rattle.std.specs.Prelude.{◌≡◌, ℕ, suc, ◌<◌, Bool, true, false, cond, not, ltb, List, [], ◌∷◌, length, ◌==◌, nat_eq, nat_lt, refl}
 use Rattle.std.proofs.Common.{ap, ◌∙◌, arith}
 use Rattle.std.proofs.lemmas.Bool.Decides.{nat_tests}
 use Rattle.classes.specs.Counting.{same_bit}
-use Rattle.classes.specs.Recordings.{Codes, Recording, count}
+use Rattle.classes.specs.Recordings.{Codes}
 use Rattle.classes.specs.Classes.{CountLike}
 use Rattle.classes.specs.Evenness.{Even}
-use Rattle.classes.specs.Exchange.{Exchange}
 use Rattle.classes.proofs.Exchanges.{exchange_even}
 use Rattle.classes.proofs.Listings.{count_listing}
 use Rattle.extractors.specs.PairsRule.{pairs}

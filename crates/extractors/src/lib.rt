@@ -1,4 +1,6 @@
 //! Extractors of fair bits from recordings of unfair symbols: their faults, their two interfaces, and the plain ones.
+#![tactic(auto)]
+
 pub mod fault;
 pub mod interface;
 pub mod judge;

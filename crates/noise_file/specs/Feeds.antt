@@ -8,7 +8,7 @@
 --   NumberFed    what feeding entry n leaves
 --   EntryFed     the same, with the entry number added to a fault and nothing else
 --   refusal_of    the table of an entry feed's refusals: those of file and well, passed up whole
-use Rattle.std.specs.Prelude.{◌≡◌, ℕ, ◌-◌, ◌≤◌, ◌⊎◌, List, ℤ, Some, None, Ok, Err, Option, Result}
+use Rattle.std.specs.Prelude.{◌≡◌, ℕ, ◌-◌, ◌≤◌, ◌⊎◌, List, ℤ, Some, Ok, Err, Option, Result}
 use Rattle.extractors.specs.Faults.{Refusal}
 use Rattle.extractors.specs.Piles.{Pile}
 use Rattle.well.specs.Faults as well

@@ -1,9 +1,8 @@
 -- What an accepted file is.
 --   Legible    entry i: its kind and its tower are known, its length is at most 4,096, its body lies in the file
 --   Accepted   a file that opens
-use Rattle.std.specs.Prelude.{◌≡◌, ℕ, ◌+◌, ◌<◌, ◌≤◌, true, List, length, is_some, Some, None, Ok, Err, Option, Result}
+use Rattle.std.specs.Prelude.{◌≡◌, ℕ, ◌+◌, ◌<◌, ◌≤◌, true, List, length, is_some, Some, None}
 use Rattle.noise_file.specs.declared.kind.Symbols.{Symbols}
-use Rattle.noise_file.specs.declared.fault.FileFault.{FileFault}
 use Rattle.noise_file.specs.Letters.{symbols_of, code_in}
 use Rattle.towers.specs.Towers.{tower_of}
 use Rattle.noise_file.specs.Reading.{stray}

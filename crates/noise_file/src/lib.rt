@@ -1,4 +1,6 @@
 //! Noise files: their contents, kinds and entries, and feeding an entry to a well.
+#![tactic(auto)]
+
 mod contents;
 pub mod entry;
 pub mod fault;

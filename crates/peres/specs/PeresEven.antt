@@ -6,7 +6,7 @@ use Rattle.std.proofs.lemmas.List.{take_at, drop_at, take-append-drop}
 use Rattle.std.proofs.lemmas.Bool.{cond-true}
 use Rattle.std.proofs.lemmas.Bool.Decides.{nat_tests}
 use Rattle.classes.specs.Counting.{one_if}
-use Rattle.classes.specs.Recordings.{Codes, Recording, Sized, count}
+use Rattle.classes.specs.Recordings.{Codes, Recording, count}
 use Rattle.classes.specs.Classes.{CountLike}
 use Rattle.classes.specs.Evenness.{Even}
 use Rattle.classes.specs.Exchange.{Exchange}

@@ -1,4 +1,6 @@
 //! The Peres layer over any coin extractor.
+#![tactic(auto)]
+
 pub mod layer;
 mod parts;
 #[cfg(test)]

@@ -1,4 +1,6 @@
 //! A check of the rankings: the bits of every short block, held against those that counting its class gives.
+#![tactic(auto)]
+
 mod block;
 mod compare;
 mod count;

@@ -1,4 +1,6 @@
 //! Ranking: blocks of a recording by their place in their count class, for coins and for symbols.
+#![tactic(auto)]
+
 mod binomial;
 pub mod coin;
 mod group;

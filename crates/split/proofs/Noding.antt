@@ -5,10 +5,9 @@ use Rattle.std.proofs.ByRecursion.{All-map}
 use Rattle.std.proofs.lemmas.List.{drop_more, drop_all}
 use Rattle.std.proofs.lemmas.Bool.{cond-true, cond-false, eq-eqb, ne_eqb}
 use Rattle.std.proofs.lemmas.Bool.Decides.{nat_tests}
-use Rattle.classes.specs.Recordings.{Codes, Recording}
+use Rattle.classes.specs.Recordings.{Recording}
 use Rattle.classes.proofs.Counts.{all_of}
 use Rattle.extractors.specs.declared.fault.ExtractorFault.{ExtractorFault}
-use Rattle.extractors.specs.declared.fault.ExtractorFault.TheVariants.{Memory}
 use Rattle.extractors.specs.Calls.{Extracted, Filled, Written}
 use Rattle.extractors.specs.Bits.{gather}
 use Rattle.extractors.proofs.Judging.{unrefused, memory_only}

@@ -1,7 +1,7 @@
 -- Every pile of the layers is lawful, and so even on its classes. Assumes nothing.
 use Rattle.std.proofs.Common.{ℕ, Bool, List}
 use Rattle.classes.specs.Evenness.{Even}
-use Rattle.extractors.specs.Piles.{Pile, Lawful, bits}
+use Rattle.extractors.specs.Piles.{Pile, Lawful}
 use Rattle.peres.specs.PeresEven.{peres_even}
 use Rattle.split.specs.SplitEven.{split_even}
 use Rattle.blum.specs.PileTheorems.{piles_even}

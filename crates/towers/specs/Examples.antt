@@ -1,6 +1,6 @@
 -- Worked examples of the rules.
 --   Examples   what each rule gives of a small recording
-use Rattle.std.specs.Prelude.{◌≡◌, ℕ, Bool, true, false, List, [], ◌∷◌}
+use Rattle.std.specs.Prelude.{◌≡◌, ℕ, true, false, List, [], ◌∷◌}
 use Rattle.classes.specs.Recordings.{width}
 use Rattle.extractors.specs.PairsRule.{pairs}
 use Rattle.extractors.specs.Lanes.{blum}

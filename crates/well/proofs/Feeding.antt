@@ -1,5 +1,5 @@
 -- A feed: the front of the tray stands for the pile's bits, and the step that they make. Assumes nothing.
-use Rattle.std.proofs.Common.{◌≡◌, ℕ, ◌+◌, ◌-◌, ◌<◌, ◌≤◌, Bool, true, false, List, [], ◌∷◌, ◌++◌, length, take, ℤ, Some, None, Option, sym, refl, ap, ◌∙◌, subst, ap₂, inl, inr, ⊎_elim, arith, le-ltb, lt-ltb}
+use Rattle.std.proofs.Common.{◌≡◌, ℕ, ◌+◌, ◌-◌, ◌≤◌, Bool, true, false, List, [], ◌∷◌, ◌++◌, length, take, ℤ, Some, None, Option, sym, refl, ap, ◌∙◌, subst, ap₂, inr, ⊎_elim, arith, le-ltb, lt-ltb}
 use Rattle.std.proofs.lemmas.List.{take_at}
 use Rattle.std.proofs.lemmas.Bool.{cond-true, cond-false, cases_lt}
 use Rattle.extractors.specs.Bits.{bytes}
@@ -10,7 +10,7 @@ use Rattle.well.specs.declared.fault.WellFault.{WellFault}
 use Rattle.well.specs.declared.fault.WellFault.TheVariants.{Poured, Full}
 use Rattle.well.specs.Lean.{flags, lean}
 use Rattle.well.specs.State.{State}
-use Rattle.well.specs.Steps.{Call, Call.feed, Outcome, Outcome.fed, First, Step, no_room, filled}
+use Rattle.well.specs.Steps.{Call.feed, Outcome.fed, First, Step, no_room, filled}
 
 flags_bytes : (s : List Bool) → flags (bytes s) ≡ s
 flags_bytes [] = refl

@@ -1,5 +1,5 @@
 -- Packing and its inverse: what each byte is worth, that bytes fit, and that unpacking gives the bits back.
-use Rattle.std.proofs.Common.{◌≡◌, ℕ, zero, suc, ◌+◌, ◌*◌, ◌/◌, ◌%◌, ◌^◌, ◌<◌, ◌≤◌, Bool, true, false, eqb, List, [], ◌∷◌, ◌++◌, length, get_or, take, drop, set, sym, refl, ap, ◌∙◌, subst, ap₂, mod-eq_of_lt, mul_assoc, mul_comm, add-mul, pow-suc, mul-suc, mul-add, arith, drop-drop, take-add, pow_pos, pow_mono}
+use Rattle.std.proofs.Common.{◌≡◌, ℕ, zero, suc, ◌+◌, ◌*◌, ◌/◌, ◌%◌, ◌^◌, ◌<◌, ◌≤◌, Bool, true, false, eqb, List, [], ◌∷◌, ◌++◌, length, get_or, take, drop, set, sym, refl, ap, ◌∙◌, subst, ap₂, mod-eq_of_lt, mul_assoc, mul_comm, add-mul, pow-suc, arith, drop-drop, take-add, pow_mono}
 use native.Mathlib.Nat.{mul-add-mod_self_right}
 use mir.Val.{bool_byte}
 use Rattle.std.specs.List.{AllByRecursion as All}

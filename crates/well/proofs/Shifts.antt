@@ -1,6 +1,6 @@
 -- A list whose elements are copied down by some places, one after another.
-use Rattle.std.proofs.Common.{◌≡◌, ℕ, ◌+◌, ◌-◌, ◌<◌, ◌≤◌, List, [], ◌∷◌, ◌++◌, length, get_or, take, drop, set, sym, ap, ◌∙◌, ap₂, append_assoc, arith}
-use Rattle.std.proofs.lemmas.List.{take_more, drop_more, set_at, get_or-append_right, get_or-drop, get_or_at, length-take-le, length-drop}
+use Rattle.std.proofs.Common.{◌≡◌, ℕ, ◌+◌, ◌-◌, ◌<◌, List, [], ◌∷◌, ◌++◌, length, get_or, take, drop, set, sym, ap, ◌∙◌, ap₂, append_assoc, arith}
+use Rattle.std.proofs.lemmas.List.{take_more, drop_more, set_at, get_or-append_right, get_or-drop, length-take-le, length-drop}
 
 -- what stands `by` places on has not been written yet
 read_ahead : {X : Type 0} (xs : List X) (by i : ℕ) (d : X) → by + i < length xs → get_or (take i (drop by xs) ++ drop i xs) (by + i) d ≡ get_or (drop by xs) i d

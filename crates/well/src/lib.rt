@@ -1,4 +1,6 @@
 //! A store of fair bits: fed by extractors, drawn from by keys, with a slip for every draw.
+#![tactic(auto)]
+
 pub mod fault;
 mod key;
 mod queue;

@@ -1,5 +1,5 @@
 -- A turn files the code after a visit at the end of what its row holds.
-use Rattle.std.proofs.Common.{◌≡◌, ◌<◌, ◌≤◌, length, ◌∙◌, arith, length-set}
+use Rattle.std.proofs.Common.{◌∙◌, arith, length-set}
 use Rattle.blum.proofs.Rows.{file_place, file_next, file_end, file_all}
 use Rattle.blum.proofs.layer.file_exits.Goals as goal
 

@@ -1,5 +1,5 @@
 -- A turn passes two codes: equal ones write nothing, different ones one bit.
-use Rattle.std.proofs.Common.{◌≡◌, ◌+◌, ◌<◌, ◌≤◌, ltb, length, get_or, sym, ap, ◌∙◌, arith, le-ltb, lt-ltb}
+use Rattle.std.proofs.Common.{◌≡◌, ◌+◌, ◌≤◌, ltb, length, get_or, sym, ap, ◌∙◌, arith, le-ltb, lt-ltb}
 use Rattle.extractors.specs.Bits.{byte}
 use Rattle.extractors.proofs.Pairing.{write_same, write_other, write_all}
 use Rattle.extractors.proofs.pairs.write_pairs.Goals as goal

@@ -1,5 +1,5 @@
 -- The bits of the codes passed stand at the front of the tray, and the rest is as it was.
-use Rattle.std.proofs.Common.{◌≡◌, ◌+◌, ◌-◌, ◌≤◌, ◌++◌, length, take, drop}
+use Rattle.std.proofs.Common.{◌≡◌, ◌-◌, ◌≤◌, ◌++◌, length, take, drop}
 use Rattle.extractors.specs.Bits.{bytes}
 use Rattle.extractors.specs.PairsRule.{pairs}
 use Rattle.extractors.proofs.pairs.write_pairs.Given as goal

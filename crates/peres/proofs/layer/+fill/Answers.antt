@@ -1,5 +1,5 @@
 -- The parts of the scratch lie within it, and what stands in them at the end is what the depth gives.
-use Rattle.std.proofs.Common.{◌≡◌, ◌+◌, ◌-◌, ◌≤◌, length, take, drop, vec_items, sym, refl, ap, ◌∙◌, subst, arith, length-drop, length-take, eqb-true}
+use Rattle.std.proofs.Common.{◌≡◌, ◌+◌, ◌-◌, length, vec_items, sym, refl, ap, ◌∙◌, subst, arith, length-drop, length-take, eqb-true}
 use Rattle.classes.specs.Recordings.{Recording}
 use Rattle.extractors.proofs.Writing.{length_put_mid}
 use Rattle.peres.specs.PeresRule.{peres}

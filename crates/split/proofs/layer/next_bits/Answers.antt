@@ -1,5 +1,5 @@
 -- A code with the prefix gives its next bit, any other nothing.
-use Rattle.std.proofs.Common.{◌≡◌, ◌+◌, ◌++◌, drop, vec_items, sym, ap, ◌∙◌, subst}
+use Rattle.std.proofs.Common.{◌≡◌, ◌+◌, ◌++◌, drop, vec_items, sym, subst}
 use Rattle.split.specs.SplitRule.{node}
 use Rattle.split.proofs.Noding.{node_here, node_other, node_all}
 use Rattle.split.proofs.layer.next_bits.Goals as goal

@@ -1,6 +1,5 @@
 -- One bit more doubles the byte and adds the bit; seven bits stay below 128.
-use Rattle.std.proofs.Common.{◌≡◌, ◌*◌, ◌<◌, false, length, get_or, take, ap, ◌∙◌, arith}
-use mir.Val.{bool_byte}
+use Rattle.std.proofs.Common.{false, ap, ◌∙◌, arith}
 use Rattle.std.proofs.lemmas.List.{take_all}
 use Rattle.well.specs.Packing.{value}
 use Rattle.well.proofs.Packs.{value_more, front_small, below_two}

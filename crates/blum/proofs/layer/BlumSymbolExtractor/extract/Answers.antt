@@ -1,5 +1,5 @@
 -- What is judged sound has room for the bits, so that they are copied whole.
-use Rattle.std.proofs.Common.{◌≡◌, ℕ, ◌*◌, ◌≤◌, length, refl, ap, ◌∙◌, arith}
+use Rattle.std.proofs.Common.{◌*◌, length, ap, ◌∙◌, arith}
 use Rattle.extractors.specs.Lanes.{blum}
 use Rattle.extractors.specs.Piles.{bits}
 use Rattle.extractors.proofs.Judging.{sound}

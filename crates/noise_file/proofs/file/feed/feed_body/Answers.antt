@@ -1,5 +1,5 @@
 -- The step of the well, accepted or refused, is that with the codes read.
-use Rattle.std.proofs.Common.{◌≡◌, ℕ, List, length, ℤ, Ok, Err, vec_items, Option, Result, sym, ap, ◌∙◌, subst}
+use Rattle.std.proofs.Common.{◌≡◌, ℕ, List, length, ℤ, Err, vec_items, Option, Result, sym, ap, ◌∙◌, subst}
 use Rattle.std.proofs.lemmas.Result.{err_from_is_err_and}
 use Rattle.extractors.specs.Piles.{Pile}
 use Rattle.well.specs.declared.fault.WellFault.{WellFault}

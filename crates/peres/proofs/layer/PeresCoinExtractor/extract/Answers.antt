@@ -1,5 +1,5 @@
 -- The scratch has a byte for each code, which is room enough, and its front is copied to the tray.
-use Rattle.std.proofs.Common.{◌≡◌, ◌*◌, length, ◌∙◌, arith}
+use Rattle.std.proofs.Common.{length, ◌∙◌, arith}
 use Rattle.extractors.proofs.Judging.{sound}
 use Rattle.extractors.proofs.Writing.{yield_fits, copied}
 use Rattle.peres.specs.PeresRule.{peres}

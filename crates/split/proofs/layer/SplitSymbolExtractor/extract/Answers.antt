@@ -1,5 +1,5 @@
 -- What is accepted has room for all bits in the scratch memory and in the tray; they are copied once they stand there.
-use Rattle.std.proofs.Common.{◌≡◌, ◌*◌, ◌≤◌, length, sym, ◌∙◌, subst, arith}
+use Rattle.std.proofs.Common.{◌*◌, ◌≤◌, length, sym, ◌∙◌, subst, arith}
 use Rattle.classes.specs.Recordings.{width}
 use Rattle.extractors.specs.Calls.{Written}
 use Rattle.extractors.proofs.Judging.{sound}

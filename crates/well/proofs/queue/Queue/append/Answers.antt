@@ -1,5 +1,5 @@
 -- The held bits are the same with or without a move to the front, and the tray's bits follow them.
-use Rattle.std.proofs.Common.{◌≡◌, ◌++◌, length, drop, vec_items, ap, ◌∙◌, arith, w32, rules}
+use Rattle.std.proofs.Common.{◌≡◌, ◌++◌, drop, vec_items, ap, ◌∙◌, arith, w32, rules}
 use Rattle.std.proofs.lemmas.List.{drop-append-le}
 use Rattle.std.proofs.lemmas.Int.{to_z-of_z}
 use Rattle.well.specs.Held.{held}

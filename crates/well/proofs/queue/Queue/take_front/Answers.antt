@@ -1,5 +1,5 @@
 -- The oldest bits go to the key, and the start moves past them.
-use Rattle.std.proofs.Common.{◌≡◌, ◌+◌, ◌-◌, ◌*◌, ◌≤◌, length, take, drop, vec_items, sym, ap, ◌∙◌, arith, length-drop}
+use Rattle.std.proofs.Common.{◌≡◌, ◌-◌, ◌*◌, length, take, drop, vec_items, sym, ap, ◌∙◌, arith, length-drop}
 use Rattle.std.proofs.lemmas.List.{length-take, take_rest, drop-drop}
 use Rattle.well.specs.Held.{held}
 use Rattle.well.specs.Packing.{packed, unpacked}

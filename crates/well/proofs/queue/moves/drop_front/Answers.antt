@@ -1,5 +1,5 @@
 -- The bits that stay are at the front, and the rest is cut off.
-use Rattle.std.proofs.Common.{◌≡◌, ◌-◌, ◌++◌, length, take, drop, vec_items, vec_len, sym, ap, ◌∙◌, arith, length-drop, rules}
+use Rattle.std.proofs.Common.{◌≡◌, ◌-◌, ◌++◌, length, take, drop, vec_len, ap, ◌∙◌, arith, length-drop, rules}
 use Rattle.std.proofs.lemmas.List.{take_at, with_items_is}
 use Rattle.well.proofs.queue.moves.drop_front.Goals as goal
 

@@ -1,5 +1,5 @@
 -- One bit more is copied down.
-use Rattle.std.proofs.Common.{◌≡◌, ◌-◌, false, ◌++◌, length, take, drop, ap, ◌∙◌, ap₂, arith, length-drop}
+use Rattle.std.proofs.Common.{◌≡◌, ◌-◌, false, ◌++◌, length, drop, ap, ◌∙◌, ap₂, arith, length-drop}
 use Rattle.std.proofs.lemmas.List.{take_all}
 use Rattle.well.proofs.Shifts.{shift_more}
 use Rattle.well.proofs.queue.moves.move_down.Goals as goal

@@ -1,5 +1,5 @@
 -- One byte more pushes its bit and moves the sum by one.
-use Rattle.std.proofs.Common.{◌≡◌, ◌++◌, length, get_or, take, vec_items, ap, ◌∙◌, arith}
+use Rattle.std.proofs.Common.{◌≡◌, ◌++◌, take, vec_items, ap, ◌∙◌, arith}
 use Rattle.std.proofs.lemmas.List.{take_all}
 use Rattle.std.proofs.lemmas.Int.{ints}
 use Rattle.well.specs.Lean.{lean, flags}

@@ -1,5 +1,5 @@
 -- The bits pushed and the sum answer the bytes read so far; the sum lies within their number.
-use Rattle.std.proofs.Common.{◌≡◌, ◌+◌, ◌≤◌, ◌++◌, take, pos, neg_ℤ, ◌≤ℤ◌, vec_items, vec_len, vec_capacity}
+use Rattle.std.proofs.Common.{◌≡◌, ◌+◌, ◌++◌, take, pos, neg_ℤ, ◌≤ℤ◌, vec_items, vec_len, vec_capacity}
 use Rattle.well.specs.Lean.{lean, flags}
 use Rattle.well.proofs.queue.moves.push_bits.Given as goal
 

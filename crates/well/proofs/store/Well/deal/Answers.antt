@@ -1,5 +1,5 @@
 -- The bits of the key leave the queue and are out; the book goes on to balance.
-use Rattle.std.proofs.Common.{◌≡◌, ◌+◌, ◌-◌, ◌*◌, length, ap, ◌∙◌, arith}
+use Rattle.std.proofs.Common.{◌≡◌, ◌-◌, ◌*◌, length, ap, ◌∙◌, arith}
 use Rattle.std.proofs.lemmas.List.{length-drop}
 use Rattle.well.specs.Held.{held}
 use Rattle.well.proofs.store.Well.deal.Goals as goal
