@@ -127,6 +127,16 @@ def library_names(root):
     return taken
 
 
+def in_full(text):
+    """The word that holds of each element by recursion, under its own name: `All` is another word of the library's."""
+    short = "AllByRecursion as All"
+    if short not in text:
+        return text
+    lines = text.replace(short, "AllByRecursion").split("\n")
+    word = re.compile(rf"(?<![^{BREAK}])All(?![^{BREAK}])")
+    return "\n".join(line if line.lstrip().startswith(("--", "//")) else word.sub("AllByRecursion", line) for line in lines)
+
+
 def main():
     root = pathlib.Path(".")
     table = respelled(root)
@@ -147,7 +157,7 @@ def main():
         return
 
     def respell(text):
-        return TOKEN.sub(lambda found: table.get(found.group(0), found.group(0)), text)
+        return in_full(TOKEN.sub(lambda found: table.get(found.group(0), found.group(0)), text))
 
     changed = 0
     for path in crate_files(root):

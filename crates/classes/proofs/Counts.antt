@@ -1,6 +1,6 @@
 -- Laws of counts over lists, and of equality as a test. Assumes nothing.
 use Rattle.std.proofs.Common.{◌≡◌, ℕ, suc, ◌+◌, ◌≤◌, Bool, true, false, cond, eqb, List, [], ◌∷◌, ◌++◌, map, length, filter, sym, refl, ap, ◌∙◌, subst, ap₂, arith}
-use Rattle.std.specs.List.{AllByRecursion as All}
+use Rattle.std.specs.List.{AllByRecursion}
 use Rattle.std.proofs.lemmas.Bool.{and_parts, and_from, eqb-true, eq-eqb}
 use Rattle.classes.specs.Counting.{one_if, add_up, tally, same_bit, same_list, same_bits, times}
 
@@ -44,15 +44,15 @@ pub word_eq : (w z : List ℕ) → w ≡ z → same_list eqb w z ≡ true
 word_eq w z h = subst (λ u. same_list eqb w u ≡ true) h (word_self w)
 
 module _ {X : Type 0} where
-  pub add_up_same : (P : X → Type 0) (g h : X → ℕ) → ((x : X) → P x → g x ≡ h x) → (xs : List X) → All P xs → add_up g xs ≡ add_up h xs
+  pub add_up_same : (P : X → Type 0) (g h : X → ℕ) → ((x : X) → P x → g x ≡ h x) → (xs : List X) → AllByRecursion P xs → add_up g xs ≡ add_up h xs
   add_up_same P g h e [] all = refl
   add_up_same P g h e (x ∷ xs) all = ap₂ ◌+◌ (e x all.0) (add_up_same P g h e xs all.1)
 
-  pub add_up_le : (P : X → Type 0) (g h : X → ℕ) → ((x : X) → P x → g x ≤ h x) → (xs : List X) → All P xs → add_up g xs ≤ add_up h xs
+  pub add_up_le : (P : X → Type 0) (g h : X → ℕ) → ((x : X) → P x → g x ≤ h x) → (xs : List X) → AllByRecursion P xs → add_up g xs ≤ add_up h xs
   add_up_le P g h e [] all = omega arith
   add_up_le P g h e (x ∷ xs) all = omega (arith, e x all.0, add_up_le P g h e xs all.1)
 
-  pub all_of : (P : X → Type 0) → ((x : X) → P x) → (xs : List X) → All P xs
+  pub all_of : (P : X → Type 0) → ((x : X) → P x) → (xs : List X) → AllByRecursion P xs
   all_of P h [] = tt
   all_of P h (x ∷ xs) = (h x, all_of P h xs)
 

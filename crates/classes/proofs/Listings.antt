@@ -1,7 +1,7 @@
 -- Every class has a list of its members, each once. Assumes nothing.
 use Rattle.std.proofs.Common.{◌≡◌, ℕ, zero, suc, ◌+◌, ◌<◌, ◌≤◌, Bool, true, false, cond, ◌&&◌, eqb, ltb, ◌⊎◌, List, [], ◌∷◌, map, length, Decides, filter, sym, refl, ap, ◌∙◌, ap₂, inl, inr, arith}
 use mathlib.Core.Path.{fun_ext}
-use Rattle.std.specs.List.{AllByRecursion as All}
+use Rattle.std.specs.List.{AllByRecursion}
 use Rattle.std.proofs.lemmas.Bool.Decides.{nat_tests, Decides-eqb, Decides-and, Decides-below_and}
 use Rattle.std.proofs.ByRecursion.{kept_by_passes, all_kept_by, All-weaker, All-append, All-map}
 use Rattle.std.proofs.lemmas.Bool.{cond-true, lt-ltb, cases_lt}
@@ -12,13 +12,13 @@ use Rattle.classes.proofs.Counts.{add_up_append, add_up_map, add_up_zero, times_
 
 -- WORDS
 
-led_all : (m n : ℕ) (ws : List (List ℕ)) → All (λ w. Codes m w × (length w ≡ n)) ws → (k : ℕ) → k ≤ m → All (λ w. Codes m w × (length w ≡ suc n)) (led_below k ws)
+led_all : (m n : ℕ) (ws : List (List ℕ)) → AllByRecursion (λ w. Codes m w × (length w ≡ n)) ws → (k : ℕ) → k ≤ m → AllByRecursion (λ w. Codes m w × (length w ≡ suc n)) (led_below k ws)
 led_all m n ws h zero l = tt
 led_all m n ws h (suc k) l =
     All-append (λ w. Codes m w × (length w ≡ suc n)) (led_below k ws) (map (λ w. k ∷ w) ws) (led_all m n ws h k (omega arith))
     (All-map (λ w. Codes m w × (length w ≡ suc n)) (λ w. k ∷ w) ws (All-weaker (λ w. Codes m w × (length w ≡ n)) (λ w. Codes m (k ∷ w) × (length (k ∷ w) ≡ suc n)) (λ w r. ((omega arith, r.0), ap suc r.1)) ws h))
 
-pub words_all : (m n : ℕ) → All (λ w. Codes m w × (length w ≡ n)) (words m n)
+pub words_all : (m n : ℕ) → AllByRecursion (λ w. Codes m w × (length w ≡ n)) (words m n)
 words_all m zero = ((tt, refl), tt)
 words_all m (suc n) = led_all m n (words m n) (words_all m n) m (omega arith)
 
@@ -90,10 +90,10 @@ steps_everywhere m x z hx hz h s c = elim (cases_lt s m) [
 module _ (m : ℕ) (Like : List ℕ → List ℕ → Type 0) (x : List ℕ) (q : List ℕ → Bool)
     (passes : (z : List ℕ) → Codes m z → length z ≡ length x → q z ≡ true → Like x z)
     (passed : (z : List ℕ) → Like x z → Codes m z × (length z ≡ length x) × (q z ≡ true)) where
-  none_else_by : All (Like x) (filter q (words m (length x)))
+  none_else_by : AllByRecursion (Like x) (filter q (words m (length x)))
   none_else_by = joined (filter q (words m (length x))) (all_kept_by q (λ w. Codes m w × (length w ≡ length x)) (words m (length x)) (words_all m (length x))) (kept_by_passes q (words m (length x)))
     where
-      joined : (ws : List (List ℕ)) → All (λ w. Codes m w × (length w ≡ length x)) ws → All (λ w. q w ≡ true) ws → All (Like x) ws
+      joined : (ws : List (List ℕ)) → AllByRecursion (λ w. Codes m w × (length w ≡ length x)) ws → AllByRecursion (λ w. q w ≡ true) ws → AllByRecursion (Like x) ws
       joined [] a b = tt
       joined (w ∷ ws) a b = (passes w a.0.0 a.0.1 b.0, joined ws a.1 b.1)
 

@@ -3,7 +3,7 @@ use Rattle.std.proofs.Common.{◌≡◌, ℕ, zero, suc, ◌+◌, ◌*◌, ◌^�
 use native.Mathlib.Nat.{pow-zero, pow-succ', pow-le-pow_left}
 use lib.ListN.{length-map}
 use lib.Pow.{pow-lt}
-use Rattle.std.specs.List.{AllByRecursion as All}
+use Rattle.std.specs.List.{AllByRecursion}
 use Rattle.std.proofs.ByRecursion.{All-append, All-map, All-weaker}
 use Rattle.std.proofs.lemmas.Bool.{cases_lt}
 use Rattle.classes.specs.Counting.{one_if, add_up, tally, same_list, same_bits, times}
@@ -28,12 +28,12 @@ length_strings (suc k) =
     ∙ ap₂ ◌+◌ (length-map (strings k) (λ s. false ∷ s) ∙ length_strings k) (length-map (strings k) (λ s. true ∷ s) ∙ length_strings k)
     ∙ omega arith
 
-strings_long : (k : ℕ) → All (λ s. length s ≡ k) (strings k)
+strings_long : (k : ℕ) → AllByRecursion (λ s. length s ≡ k) (strings k)
 strings_long zero = (refl, tt)
 strings_long (suc k) =
     All-append (λ s. length s ≡ suc k) (map (λ s. false ∷ s) (strings k)) (map (λ s. true ∷ s) (strings k)) (led (strings_long k) false) (led (strings_long k) true)
   where
-    led : All (λ s. length s ≡ k) (strings k) → (b : Bool) → All (λ s. length s ≡ suc k) (map (λ s. b ∷ s) (strings k))
+    led : AllByRecursion (λ s. length s ≡ k) (strings k) → (b : Bool) → AllByRecursion (λ s. length s ≡ suc k) (map (λ s. b ∷ s) (strings k))
     led ih b = All-map (λ s. length s ≡ suc k) (λ s. b ∷ s) (strings k) (All-weaker (λ s. length s ≡ k) (λ s. length (b ∷ s) ≡ suc k) (λ s h. ap suc h) (strings k) ih)
 
 -- a string equals at most one of them

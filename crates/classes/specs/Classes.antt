@@ -5,7 +5,7 @@
 --   CountLike, MarkovLike   what it means to be in the class of x
 --   Listing        the members of each class are exactly those alike, each listed once
 use Rattle.std.specs.Prelude.{◌≡◌, ℕ, zero, suc, Bool, true, ◌&&◌, List, [], ◌∷◌, ◌++◌, map, length, filter, ◌==◌}
-use Rattle.std.specs.List.{AllByRecursion as All}
+use Rattle.std.specs.List.{AllByRecursion}
 use Rattle.classes.specs.Counting.{times}
 use Rattle.classes.specs.Recordings.{Codes, Recording, count, first, last, steps}
 
@@ -51,6 +51,6 @@ pub record Listing (m : ℕ) (Like : List ℕ → List ℕ → Type 0) (members 
   pub itself : (x : List ℕ) → Recording m x → Like x x
   pub joined : (x z w : List ℕ) → Like x z → Like z w → Like x w
   pub recorded : (x z : List ℕ) → Recording m x → Like x z → Recording m z
-  pub none_else : (x : List ℕ) → Recording m x → All (Like x) (members x)
+  pub none_else : (x : List ℕ) → Recording m x → AllByRecursion (Like x) (members x)
   pub each_once : (x z : List ℕ) → Recording m x → Like x z → times z (members x) ≡ 1
   pub one_class : (x z : List ℕ) → Recording m x → Like x z → members z ≡ members x

@@ -8,14 +8,14 @@
 --   first, last  the first and the last code (0 where there is none)
 --   steps        how often a recording steps from one code to another
 use Rattle.std.specs.Prelude.{ℕ, ◌+◌, ◌^◌, ◌<◌, ◌≤◌, cond, List, [], ◌∷◌, length, ◌==◌, nat_eq, nat_le}
-use Rattle.std.specs.List.{AllByRecursion as All}
+use Rattle.std.specs.List.{AllByRecursion}
 use Rattle.classes.specs.Counting.{one_if, tally}
 
 abbrev pub Sized : ℕ → Type 0
 Sized m = (2 ≤ m) × (m ≤ 16)
 
 abbrev pub Codes : ℕ → List ℕ → Type 0
-Codes m x = All (λ c. c < m) x
+Codes m x = AllByRecursion (λ c. c < m) x
 
 abbrev pub Recording : ℕ → List ℕ → Type 0
 Recording m x = Codes m x × (length x ≤ 4096)

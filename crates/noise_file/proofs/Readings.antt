@@ -1,12 +1,12 @@
 -- Lemmas on letters read as codes.
 use Rattle.std.proofs.Common.{◌≡◌, ℕ, ◌+◌, ◌<◌, Bool, true, false, List, [], ◌∷◌, map, length, get_or, is_some, Some, None, Option, sym, ap, ◌∙◌, arith}
-use Rattle.std.specs.List.{AllByRecursion as All}
+use Rattle.std.specs.List.{AllByRecursion}
 use Rattle.std.proofs.lemmas.List.{length-map}
 use Rattle.noise_file.specs.First.{unless, first_over}
 use Rattle.noise_file.specs.Reading.{stray_at, stray, ReadAs}
 use Rattle.noise_file.proofs.Firsts.{over_first, over_more, over_found}
 
-pub codes_below : (m : ℕ) (f : ℕ → Option ℕ) → ((l c : ℕ) → f l ≡ Some c → c < m) → (letters codes : List ℕ) → map Some codes ≡ map f letters → All (λ c. c < m) codes
+pub codes_below : (m : ℕ) (f : ℕ → Option ℕ) → ((l c : ℕ) → f l ≡ Some c → c < m) → (letters codes : List ℕ) → map Some codes ≡ map f letters → AllByRecursion (λ c. c < m) codes
 codes_below m f law letters [] h = tt
 codes_below m f law [] (c ∷ cs) h = let z : ◌≡◌ {A = ℕ} 0 1 = cc in let no : ⊥ = omega arith in elim no [ ]
 codes_below m f law (l ∷ ls) (c ∷ cs) h =

@@ -5,7 +5,7 @@
 --   Misread    why reading fails: the stray letter, by its index, or want of memory
 use Rattle.std.specs.Prelude.{◌≡◌, ℕ, ◌<◌, ◌⊎◌, List, map, length, is_some, Some, Option, slice_index}
 use Rattle.std.specs.Option.{option_map}
-use Rattle.std.specs.List.{AllByRecursion as All}
+use Rattle.std.specs.List.{AllByRecursion}
 use Rattle.noise_file.specs.declared.fault.FileFault.{FileFault}
 use Rattle.noise_file.specs.declared.fault.FileFault.TheVariants.{Letter, Memory}
 use Rattle.noise_file.specs.First.{unless, first_over}
@@ -18,7 +18,7 @@ stray f letters = first_over (length letters) (stray_at f letters)
 
 pub record ReadAs (m : ℕ) (f : ℕ → Option ℕ) (letters codes : List ℕ) : Type 0 where
   pub coded : map Some codes ≡ map f letters
-  pub below : All (λ c. c < m) codes
+  pub below : AllByRecursion (λ c. c < m) codes
   pub as_many : length codes ≡ length letters
 
 abbrev pub Misread : (ℕ → Option ℕ) → List ℕ → FileFault → Type 0

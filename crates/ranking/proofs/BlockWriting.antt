@@ -2,7 +2,7 @@
 use Rattle.std.proofs.Common.{◌≡◌, ℕ, ◌+◌, ◌-◌, ◌*◌, ◌^◌, ◌<◌, ◌≤◌, min, Bool, List, [], ◌∷◌, ◌++◌, length, take, drop, sym, refl, ap, ◌∙◌, subst, ap₂, ⊎_elim, append_assoc, append-nil, mul-add, arith, length-append}
 use native.Mathlib.Nat.{pow-le-pow_left}
 use borrow.Rule.Slice.PartMut.{put_mid}
-use Rattle.std.specs.List.{AllByRecursion as All}
+use Rattle.std.specs.List.{AllByRecursion}
 use Rattle.std.proofs.lemmas.List.{take_all, drop_all, take_at, take_rest, drop_at, length-drop}
 use Rattle.std.proofs.lemmas.Bool.{cases_lt}
 use Rattle.classes.specs.Recordings.{Sized, Codes, width}
@@ -53,7 +53,7 @@ blocks_first b f nil some x block rest e l = by_blocks_step b f x nil some ∙ a
         (ap (take b) e ∙ take_at block rest b full, ap (drop b) e ∙ drop_at block rest b full))
         (cases_lt (length x) b)
 
-parts_all : {X : Type 0} (P : X → Type 0) (xs ys : List X) → All P (xs ++ ys) → All P xs × All P ys
+parts_all : {X : Type 0} (P : X → Type 0) (xs ys : List X) → AllByRecursion P (xs ++ ys) → AllByRecursion P xs × AllByRecursion P ys
 parts_all P [] ys h = (tt, h)
 parts_all P (x ∷ xs) ys h = let r = parts_all P xs ys h.1 in ((h.0, r.0), r.1)
 
@@ -82,7 +82,7 @@ module _ (m b : ℕ) (x before rest block later : List ℕ) (given : ℕ) (out :
   wide = ap (λ k. width m * k) long ∙ mul-add (width m) (length block) (length later)
 
   pub block_codes : Codes m block
-  block_codes = (parts_all (λ c. c < m) block later (subst (All (λ c. c < m)) e w.0)).0
+  block_codes = (parts_all (λ c. c < m) block later (subst (AllByRecursion (λ c. c < m)) e w.0)).0
 
   pub block_short : length block ≤ b
   block_short = omega (arith, es)
@@ -100,7 +100,7 @@ module _ (m b : ℕ) (x before rest block later : List ℕ) (given : ℕ) (out :
       let v = subst (λ t. Written t (take q (drop given out)) n part) (given_bits N r en er) u in
       let s = w.2.0 in
       let same : length (put_mid given q out part) ≡ length out = length_put_mid given q out part kept in (
-        (parts_all (λ c. c < m) block later (subst (All (λ c. c < m)) e w.0)).1,
+        (parts_all (λ c. c < m) block later (subst (AllByRecursion (λ c. c < m)) e w.0)).1,
         omega (arith, block_fits m sized block, wide, w.1, v.0),
         (
           s ++ block_bits m block,

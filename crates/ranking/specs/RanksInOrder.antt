@@ -2,7 +2,7 @@
 use Rattle.std.specs.Prelude.{◌≡◌, ℕ, zero, suc, ◌+◌, ◌<◌, ◌≤◌, Bool, true, false, cond, List, [], ◌∷◌, ◌++◌, map, length, filter, nat_eq, refl}
 use Rattle.std.proofs.Common.{sym, ap, ap₂, subst, ◌∙◌, one-add, arith}
 use Rattle.std.proofs.lemmas.Simd.{map-map}
-use Rattle.std.specs.List.{range_with_len, AllByRecursion as All}
+use Rattle.std.specs.List.{range_with_len, AllByRecursion}
 use Rattle.std.proofs.ByRecursion.{All-append, All-map, All-weaker, all_kept_by}
 use Rattle.std.proofs.lemmas.Bool.{lt-ltb, le-ltb, eq-eqb, ne_eqb}
 use Rattle.classes.specs.Counting.{one_if, tally, same_list, times}
@@ -32,7 +32,7 @@ module _ {X : Type 0} (lt : X → X → Bool) where
   -- each element comes before those behind it, and none of them before it
   abbrev Ordered : List X → Type 0
   Ordered [] = Unit {0}
-  Ordered (x ∷ xs) = (lt x x ≡ false) × All (Behind x) xs × Ordered xs
+  Ordered (x ∷ xs) = (lt x x ≡ false) × AllByRecursion (Behind x) xs × Ordered xs
 
   ordered_kept : (p : X → Bool) (xs : List X) → Ordered xs → Ordered (filter p xs)
   ordered_kept p [] o = tt
@@ -42,11 +42,11 @@ module _ {X : Type 0} (lt : X → X → Bool) where
       at true r = (o.0, all_kept_by p (Behind x) xs o.1, r)
       at false r = r
 
-  ordered_append : (xs ys : List X) → Ordered xs → Ordered ys → All (λ x. All (Behind x) ys) xs → Ordered (xs ++ ys)
+  ordered_append : (xs ys : List X) → Ordered xs → Ordered ys → AllByRecursion (λ x. AllByRecursion (Behind x) ys) xs → Ordered (xs ++ ys)
   ordered_append [] ys o r h = r
   ordered_append (x ∷ xs) ys o r h = (o.0, All-append (Behind x) xs ys o.1 h.0, ordered_append xs ys o.2 r h.1)
 
-  tally_no : (p : X → Bool) (xs : List X) → All (λ x. p x ≡ false) xs → tally p xs ≡ 0
+  tally_no : (p : X → Bool) (xs : List X) → AllByRecursion (λ x. p x ≡ false) xs → tally p xs ≡ 0
   tally_no p [] h = refl
   tally_no p (x ∷ xs) h = ap₂ (λ b n. one_if b + n) h.0 (tally_no p xs h.1)
 
@@ -65,7 +65,7 @@ module _ {X : Type 0} (lt : X → X → Bool) where
       counting_suc s zero = refl
       counting_suc s (suc n) = let e : suc s ≡ s + 1 = omega arith in ap₂ (λ k l. k ∷ l) e (counting_suc (s + 1) n)
 
-      map_same : (f g : X → ℕ) (ys : List X) → All (λ y. f y ≡ g y) ys → map f ys ≡ map g ys
+      map_same : (f g : X → ℕ) (ys : List X) → AllByRecursion (λ y. f y ≡ g y) ys → map f ys ≡ map g ys
       map_same f g [] h = refl
       map_same f g (y ∷ ys) h = ap₂ ◌∷◌ h.0 (map_same f g ys h.1)
 
@@ -80,7 +80,7 @@ ordered_led_by d (w ∷ ws) o = (
   ordered_led_by d ws o.2,
 )
 
-all_led : (P : List ℕ → Type 0) (k : ℕ) (ws : List (List ℕ)) → ((c : ℕ) (w : List ℕ) → c < k → P (c ∷ w)) → All P (led_below k ws)
+all_led : (P : List ℕ → Type 0) (k : ℕ) (ws : List (List ℕ)) → ((c : ℕ) (w : List ℕ) → c < k → P (c ∷ w)) → AllByRecursion P (led_below k ws)
 all_led P zero ws f = tt
 all_led P (suc k) ws f =
     All-append P (led_below k ws) (map (λ w. k ∷ w) ws) (all_led P k ws (λ c w h. f c w (omega arith)))
@@ -90,7 +90,7 @@ ordered_led : (k : ℕ) (ws : List (List ℕ)) → Ordered before ws → Ordered
 ordered_led zero ws o = tt
 ordered_led (suc k) ws o =
     ordered_append before (led_below k ws) (map (λ w. k ∷ w) ws) (ordered_led k ws o) (ordered_led_by k ws o)
-    (all_led (λ w. All (Behind before w) (map (λ v. k ∷ v) ws)) k ws
+    (all_led (λ w. AllByRecursion (Behind before w) (map (λ v. k ∷ v) ws)) k ws
     (λ c w h. All-map (Behind before (c ∷ w)) (λ v. k ∷ v) ws
     (all_of (λ v. Behind before (c ∷ w) (k ∷ v)) (λ v. (before_less c k w v h, before_more k c v w h)) ws)))
 
@@ -109,11 +109,11 @@ ranks_in_order m x h =
     map_like (count_class m x) ((count_listing m).none_else x h)
     ∙ places before (count_class m x) (ordered_kept before (same_counts m x) (words m (length x)) (ordered_words m (length x)))
   where
-    map_like : (ws : List (List ℕ)) → All (CountLike m x) ws → map (rank m) ws ≡ map (λ y. tally (λ z. before z y) (count_class m x)) ws
+    map_like : (ws : List (List ℕ)) → AllByRecursion (CountLike m x) ws → map (rank m) ws ≡ map (λ y. tally (λ z. before z y) (count_class m x)) ws
     map_like [] a = refl
     map_like (w ∷ ws) a = ap₂ ◌∷◌ (ap (tally (λ z. before z w)) ((count_listing m).one_class x w h a.0)) (map_like ws a.1)
 
-all_times : (P : List ℕ → Type 0) (z : List ℕ) (ws : List (List ℕ)) → All P ws → 0 < times z ws → P z
+all_times : (P : List ℕ → Type 0) (z : List ℕ) (ws : List (List ℕ)) → AllByRecursion P ws → 0 < times z ws → P z
 all_times P z [] a h = absurd (omega arith)
 all_times P z (w ∷ ws) a h = at (λ k. all_times P z ws a.1 k) (same_list nat_eq w z) refl h
   where
@@ -121,16 +121,16 @@ all_times P z (w ∷ ws) a h = at (λ k. all_times P z ws a.1 k) (same_list nat_
     at rest true q k = subst P (word_true w z q) a.0
     at rest false q k = rest (omega arith)
 
-counting_below : (s n : ℕ) → All (λ i. i < s + n) (range_with_len s n)
+counting_below : (s n : ℕ) → AllByRecursion (λ i. i < s + n) (range_with_len s n)
 counting_below s zero = tt
 counting_below s (suc n) = (omega arith, All-weaker (λ i. i < s + 1 + n) (λ i. i < s + suc n) (λ i h. omega arith) (range_with_len (s + 1) n) (counting_below (s + 1) n))
 
 pub rank_below : (m : ℕ) (x : List ℕ) → Recording m x → rank m x < class_size m x
 rank_below m x h =
     all_times (λ y. rank m y < class_size m x) x (count_class m x)
-    (unmapped (count_class m x) (subst (All (λ r. r < class_size m x)) (sym (ranks_in_order m x h)) (All-weaker (λ i. i < 0 + class_size m x) (λ i. i < class_size m x) (λ i k. omega arith) (range_with_len 0 (class_size m x)) (counting_below 0 (class_size m x)))))
+    (unmapped (count_class m x) (subst (AllByRecursion (λ r. r < class_size m x)) (sym (ranks_in_order m x h)) (All-weaker (λ i. i < 0 + class_size m x) (λ i. i < class_size m x) (λ i k. omega arith) (range_with_len 0 (class_size m x)) (counting_below 0 (class_size m x)))))
     (omega (arith, (count_listing m).each_once x x h ((count_listing m).itself x h)))
   where
-    unmapped : (ws : List (List ℕ)) → All (λ r. r < class_size m x) (map (rank m) ws) → All (λ y. rank m y < class_size m x) ws
+    unmapped : (ws : List (List ℕ)) → AllByRecursion (λ r. r < class_size m x) (map (rank m) ws) → AllByRecursion (λ y. rank m y < class_size m x) ws
     unmapped [] a = tt
     unmapped (w ∷ ws) a = (a.0, unmapped ws a.1)

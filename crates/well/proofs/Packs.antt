@@ -2,7 +2,7 @@
 use Rattle.std.proofs.Common.{◌≡◌, ℕ, zero, suc, ◌+◌, ◌*◌, ◌/◌, ◌%◌, ◌^◌, ◌<◌, ◌≤◌, Bool, true, false, eqb, List, [], ◌∷◌, ◌++◌, length, get_or, take, drop, set, sym, refl, ap, ◌∙◌, subst, ap₂, mod-eq_of_lt, mul_assoc, mul_comm, add-mul, pow-suc, arith, drop-drop, take-add, pow_mono}
 use native.Mathlib.Nat.{mul-add-mod_self_right}
 use mir.Val.{bool_byte}
-use Rattle.std.specs.List.{AllByRecursion as All}
+use Rattle.std.specs.List.{AllByRecursion}
 use Rattle.std.proofs.lemmas.List.{take_more, take_more_set, length_push, length-take-le, length-drop}
 use Rattle.std.proofs.lemmas.Nat.{shr_high}
 use Rattle.well.specs.Packing.{value, packed, digits, unpacked}
@@ -76,7 +76,7 @@ unpacked_packed (suc k) bits h =
     ∙ sym (take-add 8 (8 * k) bits) ∙ ap (λ n. take n bits) s
 
 -- every packed number fits a byte
-pub packed_below : (k : ℕ) (bits : List Bool) → 8 * k ≤ length bits → All (λ byte. byte < 256) (packed k bits)
+pub packed_below : (k : ℕ) (bits : List Bool) → 8 * k ≤ length bits → AllByRecursion (λ byte. byte < 256) (packed k bits)
 packed_below zero bits h = tt
 packed_below (suc k) bits h =
     (value_take_lt bits 8 (omega arith), packed_below k (drop 8 bits) (simp length-drop (omega arith)))
