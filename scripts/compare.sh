@@ -3,25 +3,19 @@
 # on the first file for which they do not print the same bytes. Where the program is not built yet it is built first,
 # which proves it, as scripts/clean.sh does. The files stay in target/twin/files/SEED.
 #   bash scripts/compare.sh [SEED [COUNT]]        (1 and 3000 if not given)
-# CLEAN may name a program to compare instead of target/bin/clean, by its path from the repository's folder.
-# It also holds the fixed cases of crates/fixed_cases, its stdin and stdout, to what the twin makes of them.
+# CLEAN may name a program to compare instead of crates/clean/out/clean, by its path from the repository's folder.
 set -euo pipefail
 cd "$(dirname "$0")/.."
 seed=${1:-1}
 count=${2:-3000}
-clean=${CLEAN:-target/bin/clean}
+clean=${CLEAN:-crates/clean/out/clean}
 
 mkdir -p target/twin
 for name in clean cases fast; do
     rustc --edition 2021 -O -o "target/twin/$name" "twin/$name.rs"
 done
-[ -x "$clean" ] || [ -n "${CLEAN:-}" ] || rt check clean >&2
+[ -x "$clean" ] || [ -n "${CLEAN:-}" ] || (cd crates/clean && rt run < /dev/null > /dev/null)
 [ -x "$clean" ] || { echo "compare: there is no program $clean" >&2; exit 1; }
-
-target/twin/cases pack 1 300 target/twin/cases.bin
-cmp target/twin/cases.bin crates/fixed_cases/stdin >&2
-target/twin/clean cases < crates/fixed_cases/stdin > target/twin/cases.expected
-cmp target/twin/cases.expected crates/fixed_cases/stdout >&2
 
 files=target/twin/files/$seed
 rm -rf "$files"
