@@ -14,6 +14,7 @@ BREAK = r"\s(){}\[\],;.:`\"⌜⌝@λ"
 NAME = rf"[^{BREAK}]+"
 TOKEN = re.compile(NAME)
 DECLARED = re.compile(rf"^((?:(?:pub|abbrev|unfoldable)\s+)*)({NAME})(?:\s*\{{[^}}]*\}})?\s+:\s*(.*)$")
+ALONE = re.compile(rf"^(?:(?:pub|abbrev|unfoldable)\s+)*({NAME})\s+:$")
 SHAPE = re.compile(rf"^(?:pub\s+)?(?:record|data)\s+({NAME})")
 NESTED = re.compile(rf"^ +(?:(?:pub|abbrev|unfoldable)\s+)*({NAME}) :(?:\s|$)")
 CLAUSE = re.compile(r"\b(?:ensures|requires|ghost)\s+([a-z]\w*_\w*)\s*[:{=]")
@@ -24,26 +25,29 @@ def crate_files(root):
     return sorted(p for p in root.glob("crates/*/**/*") if p.is_file() and "/out/" not in str(p))
 
 
+def continued(lines, i):
+    """The indented lines below line i, put together."""
+    whole = []
+    for more in lines[i + 1 :]:
+        if not more.startswith(" "):
+            break
+        whole.append(more.strip())
+    return whole
+
+
 def signatures(text):
     """Each top-level signature as (name, type), a type over several lines put together."""
     lines = text.split("\n")
     for i, line in enumerate(lines):
+        if line.startswith(("use ", "--", "unfolding")):
+            continue
         found = DECLARED.match(line)
-        if found and not line.startswith(("use ", "--", "unfolding")):
-            whole = [found.group(3)]
-            for more in lines[i + 1 :]:
-                if not more.startswith(" "):
-                    break
-                whole.append(more.strip())
-            yield found.group(2), " ".join(whole)
-        elif re.match(rf"^(?:(?:pub|abbrev|unfoldable)\s+)*({NAME})\s+:$", line):
-            name = re.match(rf"^(?:(?:pub|abbrev|unfoldable)\s+)*({NAME})\s+:$", line).group(1)
-            whole = []
-            for more in lines[i + 1 :]:
-                if not more.startswith(" "):
-                    break
-                whole.append(more.strip())
-            yield name, " ".join(whole)
+        if found:
+            yield found.group(2), " ".join([found.group(3)] + continued(lines, i))
+            continue
+        found = ALONE.match(line)
+        if found:
+            yield found.group(1), " ".join(continued(lines, i))
 
 
 def aliases(line):
@@ -137,6 +141,27 @@ def in_full(text):
     return "\n".join(line if line.lstrip().startswith(("--", "//")) else word.sub("AllByRecursion", line) for line in lines)
 
 
+def aligned(text):
+    """The words that a file's head explains, their explanations in one column again after a name grew shorter."""
+    lines = text.split("\n")
+    entry = re.compile(r"^(--   \S.*?)(\s{2,})(\S.*)$")
+    heads = []
+    for i, line in enumerate(lines):
+        if not line.startswith("--"):
+            break
+        found = entry.match(line)
+        if found:
+            heads.append((i, found))
+    if not heads:
+        return text
+    columns = [found.start(3) for _, found in heads]
+    column = max(columns, key=columns.count)
+    for i, found in heads:
+        if abs(found.start(3) - column) <= 3 and len(found.group(1)) + 2 <= column:
+            lines[i] = found.group(1).ljust(column) + found.group(3)
+    return "\n".join(lines)
+
+
 def main():
     root = pathlib.Path(".")
     table = respelled(root)
@@ -165,6 +190,8 @@ def main():
             continue
         old = path.read_text()
         new = respell(old)
+        if path.parent.name == "specs":
+            new = aligned(new)
         if new != old:
             path.write_text(new)
             changed += 1

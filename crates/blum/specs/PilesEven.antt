@@ -1,6 +1,6 @@
 -- The two theorems of piles: what the even law that an extractor owes makes of a whole pile.
 --   CountsEven      the bits are even on every count class of every size
---   OwnClassEven   the bits are even on the class of the pile: the Markov class with a Blum layer on top, else the count class
+--   OwnClassEven    the bits are even on the class of the pile: the Markov class with a Blum layer on top, else the count class
 --   PilesEven       every lawful pile is both
 use Rattle.std.specs.Prelude.{ℕ}
 use Rattle.classes.specs.Recordings.{Sized}

@@ -1,6 +1,6 @@
 //! The Blum layer: the lanes of a recording go one by one to the extractor below.
 ghost use Rattle.std.specs.Prelude.{◌≡◌, ◌-◌, ◌*◌, ◌≤◌, length, if◌then◌else◌, nat_eq};
-ghost use Rattle.classes.specs.Recordings.{Recording, Sized, width as width_of_lem};
+ghost use Rattle.classes.specs.Recordings.{Recording, Sized, width as width_of};
 ghost use Rattle.extractors.specs.Lanes.{blum};
 ghost use Rattle.extractors.specs.Piles.{bits};
 ghost use Rattle.extractors.specs.Piles.Pile.{laned};
@@ -61,7 +61,7 @@ fn fill<E: SymbolExtractor>(
 ) -> Result<usize, ExtractorFault>
     requires sized { Sized size }
     requires recorded { Recording size recording.now }
-    requires room { width_of_lem size * length recording.now ≤ length scratch.old }
+    requires room { width_of size * length recording.now ≤ length scratch.old }
     ensures { Filled (blum size (bits (E.SymbolExtractor.pile below.now) size) recording.now) scratch.old result scratch.new }
 {
     let n = recording.len();

@@ -1,7 +1,7 @@
 -- The even law: two bit strings of equal length are given by equally many recordings of a class.
 --   EvenOn      the law for one class, a count over its members
 --   EvenOver    the law on the class of every recording of a size
---   Even         the law on every count class of a size
+--   Even        the law on every count class of a size
 --   EvenChains  the law on every Markov class of a size
 --   YieldBound  what the law on count classes implies for the length of what is given
 use Rattle.std.specs.Prelude.{◌≡◌, ℕ, ◌*◌, ◌≤◌, Bool, List, length}

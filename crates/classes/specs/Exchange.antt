@@ -1,6 +1,6 @@
 -- Partner exchange, the even law without counting: a recording of the class that gives any other bits of the same length, and back.
 --   Exchange             put x t is the partner of x that gives t
---   ExchangeIsEven     an exchange gives the even law, and the even law an exchange, on both kinds of class
+--   ExchangeIsEven       an exchange gives the even law, and the even law an exchange, on both kinds of class
 use Rattle.std.specs.Prelude.{◌≡◌, ℕ, Bool, List, length}
 use Rattle.classes.specs.Recordings.{Recording}
 use Rattle.classes.specs.Classes.{CountLike, MarkovLike}

@@ -3,7 +3,7 @@
 --   Codes        every code is below the size; a code is a number from 0 to the size less 1
 --   Recording    0 to 4,096 codes of one size
 --   width        the number of bits that write any code of a size
---   LeastWidth  what the width is: the least w for which 2 to the power w is at least the size
+--   LeastWidth   what the width is: the least w for which 2 to the power w is at least the size
 --   count        how often a code stands in a recording
 --   first, last  the first and the last code (0 where there is none)
 --   steps        how often a recording steps from one code to another

@@ -1,12 +1,12 @@
 -- What the program prints of the bytes bs of a file; entries are numbered from 1.
 --   tray_room         the bytes of the tray: enough for 4,096 codes of the largest size
---   EntryFedLine    an entry fed to the well, and its line: the entry as the file lists it, the yield and the lean as answered
---   EntryCleaned     the same, its line added to a text, and keys dealt onto it
---   EntriesCleaned   the text and the state of the well after the first n entries, fed in order to a well of mark 1
+--   EntryFedLine      an entry fed to the well, and its line: the entry as the file lists it, the yield and the lean as answered
+--   EntryCleaned      the same, its line added to a text, and keys dealt onto it
+--   EntriesCleaned    the text and the state of the well after the first n entries, fed in order to a well of mark 1
 --   Ready             the file lists entry n, and a well has room for all the bits that an entry can give
---   LineRefused      why an entry has no line: its feed was refused, or memory was wanting for the text
+--   LineRefused       why an entry has no line: its feed was refused, or memory was wanting for the text
 --   Wanting           a fault that stands for want of memory: its number is 0
---   FileCleaned      the text of an accepted file: all its entries in order, then the last line
+--   FileCleaned       the text of an accepted file: all its entries in order, then the last line
 --   Cleaned           the text of a file: the line of the refusal that is due, or else that of an accepted file
 use Rattle.std.specs.Prelude.{◌≡◌, ℕ, zero, suc, ◌+◌, ◌-◌, ◌≤◌, List, [], ◌++◌, length, ℤ, Err}
 use Rattle.well.specs.State.{State, fresh}

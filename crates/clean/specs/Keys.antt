@@ -1,10 +1,10 @@
 -- Keys dealt from a well: each is drawn, and its slip is loaded. The states are those of the well.
 --   Enough      a key has 1 to 32 bytes, and the bits for it are held
 --   after_key   the state after a key of k bytes: its bits are drawn, and the slip of this draw is loaded
---   NextKey    one key dealt, or, where there is not enough, key buffer and state as they were
+--   NextKey     one key dealt, or, where there is not enough, key buffer and state as they were
 --   Dealt       keys dealt in order, each of the oldest bits, until fewer are held than a key needs
 --   key_lines   the lines of keys, in order
---   DealtOnto  the same, with the lines of the keys added to a text
+--   DealtOnto   the same, with the lines of the keys added to a text
 use Rattle.std.specs.Prelude.{◌≡◌, ℕ, ◌*◌, ◌<◌, ◌≤◌, Bool, true, false, List, [], ◌∷◌, ◌++◌, length}
 use Rattle.well.specs.Packing.{packed}
 use Rattle.well.specs.State.{State}

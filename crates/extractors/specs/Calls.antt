@@ -1,7 +1,7 @@
 -- What a call of an extractor leaves: when it refuses, and what tray and answer are.
 --   first_stray   the index of the first code not below the size; the length where there is none
 --   due           the fault that size, recording and tray call for, in the order of the rules
---   RefusedAs    an answer Err: the fault that is due; where none is due, want of memory and nothing else
+--   RefusedAs     an answer Err: the fault that is due; where none is due, want of memory and nothing else
 --   Written       bits at the front of a tray, the rest as it was
 --   Extracted     what a call leaves
 --   Filled        bits at the front of scratch memory, or want of memory, after which the scratch is given up unread

@@ -1,7 +1,7 @@
 //! What every extractor asks of its input: the width of an alphabet, the room that a tray needs, the refusals in order.
 ghost use Rattle.std.specs.Prelude.{◌≡◌, ℕ, ◌-◌, ◌*◌, ◌^◌, ◌≤◌, min, Bool, List, length};
 ghost use Rattle.classes.specs.Evenness.{Even};
-ghost use Rattle.classes.specs.Recordings.{LeastWidth, Recording, Sized, width as width_of_lem};
+ghost use Rattle.classes.specs.Recordings.{LeastWidth, Recording, Sized, width as width_of};
 ghost use Rattle.extractors.specs.Calls.{Judged, due, first_stray};
 
 use crate::fault::ExtractorFault;
@@ -15,7 +15,7 @@ pub const MOST_CODES: usize = 4096;
 
 /// The number of bits that write any code of a size: the least `w` for which 2 to the power `w` is at least the size.
 pub fn width(size: u8) -> usize
-    ensures value { result ≡ width_of_lem size }
+    ensures value { result ≡ width_of size }
     ensures least { Sized size → LeastWidth size result }
     ensures most { result ≤ 4 }
 {
@@ -24,7 +24,7 @@ pub fn width(size: u8) -> usize
 
 /// The width, by the powers of two up to 16.
 fn tabled_width(size: u8) -> usize
-    ensures value { result ≡ width_of_lem size }
+    ensures value { result ≡ width_of size }
     ensures most { result ≤ 4 }
 {
     if size <= 2 {
@@ -40,7 +40,7 @@ fn tabled_width(size: u8) -> usize
 
 /// The tray that `n` codes of a size need: no extractor that keeps the even law gives more bits of them.
 pub fn room(size: u8, n: usize) -> usize
-    ensures bytes { result ≡ min (width_of_lem size * n) (2 ^ 64 - 1) }
+    ensures bytes { result ≡ min (width_of size * n) (2 ^ 64 - 1) }
     ensures suffices { Sized size → (f : List ℕ → List Bool) → Even size f → (x : List ℕ) → Recording size x → length x ≡ n → length (f x) ≤ result }
 {
     width(size).saturating_mul(n)

@@ -2,7 +2,7 @@
 --   symbols_in       the kind of an entry
 --   body_in          its part of the file
 --   Holds            an entry is entry i of the file: its kind, its tower, its place and its letters
---   EntryNumbered   an entry is that of a number: the file lists it, every letter is of its kind, and they are few
+--   EntryNumbered    an entry is that of a number: the file lists it, every letter is of its kind, and they are few
 --   Answered         the answer for an entry number
 use Rattle.std.specs.Prelude.{◌≡◌, ℕ, ◌-◌, ◌≤◌, List, length, Some, None, Ok, Err, Result}
 use Rattle.noise_file.specs.declared.kind.Symbols.{Symbols}

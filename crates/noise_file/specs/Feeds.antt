@@ -1,13 +1,13 @@
 -- What feeding an entry of the file's bytes bs to a well leaves; n is the number of the entry, from 1.
---   size_in       the size of a kind
---   Listed        the file has an entry of that number
+--   size_in      the size of a kind
+--   Listed       the file has an entry of that number
 --   LettersFed   a step of the well: letters are read as codes and these are fed
---   Fed           what feeding letters leaves: such a step, or want of memory to read them
+--   Fed          what feeding letters leaves: such a step, or want of memory to read them
 --   StepOf       the step of the well that feeds entry n
 --   RefusedFeed  a refusal: by the file, with the well as it was, or by the well, in its own step
 --   NumberFed    what feeding entry n leaves
 --   EntryFed     the same, with the entry number added to a fault and nothing else
---   refusal_of    the table of an entry feed's refusals: those of file and well, passed up whole
+--   refusal_of   the table of an entry feed's refusals: those of file and well, passed up whole
 use Rattle.std.specs.Prelude.{◌≡◌, ℕ, ◌-◌, ◌≤◌, ◌⊎◌, List, ℤ, Some, Ok, Err, Option, Result}
 use Rattle.extractors.specs.Faults.{Refusal}
 use Rattle.extractors.specs.Piles.{Pile}

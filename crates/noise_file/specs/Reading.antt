@@ -1,7 +1,7 @@
 -- What it is to read letters as codes, for any table f from letters to codes.
 --   stray_at   the index i, where letter i has no code
 --   stray      the index of the first letter without a code
---   ReadAs    the codes of the letters, in order, each below the size m
+--   ReadAs     the codes of the letters, in order, each below the size m
 --   Misread    why reading fails: the stray letter, by its index, or want of memory
 use Rattle.std.specs.Prelude.{◌≡◌, ℕ, ◌<◌, ◌⊎◌, List, map, length, is_some, Some, Option, slice_index}
 use Rattle.std.specs.Option.{option_map}

@@ -1,6 +1,6 @@
 //! The split layer over any coin extractor: nodes, levels, and the bits of all levels.
 ghost use Rattle.std.specs.Prelude.{◌≡◌, ◌*◌, ◌<◌, ◌≤◌, length, vec_items};
-ghost use Rattle.classes.specs.Recordings.{Recording, width as width_of_lem};
+ghost use Rattle.classes.specs.Recordings.{Recording, width as width_of};
 ghost use Rattle.extractors.specs.Piles.Pile.{bare};
 ghost use Rattle.split.specs.Scratch.{Listed};
 ghost use Rattle.extractors.specs.Calls.{Filled};
@@ -97,7 +97,7 @@ fn fill<E: CoinExtractor>(
 }
 
 impl<E: CoinExtractor> SymbolExtractor for Split<E> {
-    ghost pile = { λ s. bare (λ m. split (width_of_lem m) (E.CoinExtractor.gives s.below)) };
+    ghost pile = { λ s. bare (λ m. split (width_of m) (E.CoinExtractor.gives s.below)) };
 
     ghost lawful = { λ e m sized. split_even m (E.CoinExtractor.gives e.below) sized (E.CoinExtractor.even e.below) };
 

@@ -6,8 +6,8 @@
 --   not_taken     why a load is refused, if it is
 --   Step          one call: refused in the order of the rules with the state kept, or answered
 --   of_feed, of_draw, of_load   the outcome that an answer stands for
---   KeyKept      a refused draw leaves the key buffer as it was
---   HandedBack   a refused load hands the slip back as it was
+--   KeyKept       a refused draw leaves the key buffer as it was
+--   HandedBack    a refused load hands the slip back as it was
 use Rattle.std.specs.Prelude.{◌≡◌, ℕ, ◌+◌, ◌-◌, ◌*◌, Bool, cond, ◌⊎◌, List, ◌++◌, length, drop, ℤ, Some, None, Ok, Err, Option, Result, ◌==◌, nat_lt}
 use Rattle.extractors.specs.declared.fault.ExtractorFault.TheVariants.{Memory}
 use Rattle.extractors.specs.Calls.{due}
