@@ -3,8 +3,8 @@
 
 Run it at the top of the repository, after tools/respell.py: a name that comes from the source keeps its underscores, and a
 word of the check's own has underscores, where both once had dashes. Dashes join the parts of a name, as in
-`overflow_add-at-in-loop-lead`. Two names that the rule gets wrong are mended by hand: `bounds-counts-code-in-loop-i`, where
-`code_in` is a function elsewhere, and `X-index`, the place of an element X in a loop.
+`overflow_add-at-in-loop-lead`. One name that the rule gets wrong is mended by hand: `bounds-counts-code-in-loop-i`, where
+`code_in` is a function elsewhere.
 """
 import pathlib
 import re

@@ -4,8 +4,6 @@
 //   cases SEED COUNT DIR               writes COUNT files into DIR, named 0000.noise and so on
 //   cases pack SEED COUNT OUT.bin      writes COUNT small files into one: each as two bytes of length, high byte first,
 //                                      and then its bytes
-//
-// crates/fixed_cases/stdin is the pack of seed 1 with 300 files, and stdout beside it what twin/clean.rs prints for each.
 
 use std::io::Write;
 
