@@ -1,7 +1,6 @@
 #!/usr/bin/env bash
-# Cleans the noise file given: builds the program first, which proves it, where it is not built yet.
+# Cleans the noise file given. The program is built first, which proves it, where it is not built yet or has changed.
 set -euo pipefail
 file=$(realpath "$1")
 cd "$(dirname "$0")/../crates/clean"
-[ -x out/clean ] || rt run < "$file" > /dev/null
-out/clean < "$file"
+rt run < "$file"

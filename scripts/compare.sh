@@ -1,7 +1,7 @@
 #!/usr/bin/env bash
 # Compares the cleaning program with its twins: makes noise files, good and damaged, runs all three on each, and fails
-# on the first file for which they do not print the same bytes. Where the program is not built yet it is built first,
-# which proves it, as scripts/clean.sh does. The files stay in target/twin/files/SEED.
+# on the first file for which they do not print the same bytes. The program is built first, which proves it, where it is
+# not built yet or has changed. The files stay in target/twin/files/SEED.
 #   bash scripts/compare.sh [SEED [COUNT]]        (1 and 3000 if not given)
 # CLEAN may name a program to compare instead of crates/clean/out/clean, by its path from the repository's folder.
 set -euo pipefail
@@ -14,7 +14,7 @@ mkdir -p target/twin
 for name in clean cases fast; do
     rustc --edition 2021 -O -o "target/twin/$name" "twin/$name.rs"
 done
-[ -x "$clean" ] || [ -n "${CLEAN:-}" ] || (cd crates/clean && rt run < /dev/null > /dev/null)
+[ -n "${CLEAN:-}" ] || (cd crates/clean && rt run < /dev/null > /dev/null)
 [ -x "$clean" ] || { echo "compare: there is no program $clean" >&2; exit 1; }
 
 files=target/twin/files/$seed

@@ -9,14 +9,14 @@ word of the check's own has underscores, where both once had dashes. Dashes join
 import pathlib
 import re
 
+from respell import TOKEN, crate_files, rewrite
+
 # Words of the check and of the library that proofs name.
 WORDS = """
 overflow_add overflow_sub overflow_mul overflow_shl overflow_shr overflow_cast overflow_step slice_bounds nonzero_div
 nonzero_rem offset_bounds invariant_of in_ok in_err in_default yielded_by type_inv as_slice deref_mut as_mut_slice
 index_mut from_residual into_iter size_hint as_str as_bytes
 """.split()
-BREAK = r"\s(){}\[\],;.:`\"⌜⌝@λ"
-TOKEN = re.compile(rf"[^{BREAK}]+")
 
 
 def source_names(root):
@@ -40,15 +40,13 @@ def main():
         return token
 
     changed = 0
-    for path in root.glob("crates/*/proofs/**/*.antt"):
-        if "/out/" in str(path) or path.parent.name == "proofs":
+    for path in crate_files(root):
+        # The files of functions lie in folders below proofs/, lemmas right in it.
+        if path.suffix != ".antt" or path.parts[2] != "proofs" or path.parent.name == "proofs":
             continue
-        old = path.read_text()
-        lines = old.split("\n")
+        lines = path.read_text().split("\n")
         new = "\n".join(x if x.startswith(("--", "use Rattle.std")) else TOKEN.sub(turned, x) for x in lines)
-        if new != old:
-            path.write_text(new)
-            changed += 1
+        changed += rewrite(path, new)
     print(f"{changed} files")
 
 

@@ -25,6 +25,14 @@ def crate_files(root):
     return sorted(p for p in root.glob("crates/*/**/*") if p.is_file() and "/out/" not in str(p))
 
 
+def rewrite(path, new):
+    """Writes the text where it is another than before, and answers whether it is."""
+    if path.read_text() == new:
+        return False
+    path.write_text(new)
+    return True
+
+
 def continued(lines, i):
     """The indented lines below line i, put together."""
     whole = []
@@ -188,21 +196,12 @@ def main():
     for path in crate_files(root):
         if path.suffix not in (".antt", ".rt", ".edit"):
             continue
-        old = path.read_text()
-        new = respell(old)
-        if path.parent.name == "specs":
-            new = aligned(new)
-        if new != old:
-            path.write_text(new)
-            changed += 1
+        new = respell(path.read_text())
+        changed += rewrite(path, aligned(new) if path.parent.name == "specs" else new)
     for path in [pathlib.Path("README.md"), *sorted(pathlib.Path("docs").glob("*.md"))]:
         if not path.exists() or path.name.startswith("PORT"):
             continue
-        old = path.read_text()
-        new = re.sub(r"`[^`\n]+`", lambda found: respell(found.group(0)), old)
-        if new != old:
-            path.write_text(new)
-            changed += 1
+        changed += rewrite(path, re.sub(r"`[^`\n]+`", lambda found: respell(found.group(0)), path.read_text()))
     print(f"{len(table)} names respelled in {changed} files")
 
 

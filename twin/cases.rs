@@ -1,5 +1,5 @@
-// Makes noise files, good and damaged, for comparing the cleaning program with its twin. Only the seed and the number
-// of a file decide its bytes.
+// Makes noise files, good and damaged, for comparing the cleaning program with its twin. A file's bytes depend on the
+// seed and on its place among the files, and on nothing else.
 //
 //   cases SEED COUNT DIR               writes COUNT files into DIR, named 0000.noise and so on
 //   cases pack SEED COUNT OUT.bin      writes COUNT small files into one: each as two bytes of length, high byte first,
