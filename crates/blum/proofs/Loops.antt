@@ -1,23 +1,26 @@
 -- Lanes, kept exits and their bits as the loops of the layer meet them. Assumes nothing.
-use Rattle.std.proofs.Common.{◌≡◌, ℕ, ◌+◌, ◌-◌, ◌*◌, ◌<◌, ◌≤◌, Bool, true, false, cond, eqb, List, [], ◌∷◌, ◌++◌, length, get_or, take, drop, None, sym, refl, ap, ◌∙◌, subst, append_assoc, append-nil, mul-le-mul_left, mul-add, add-one, arith}
-use Rattle.std.proofs.lemmas.List.{take_all, drop_more, drop_all}
+use Rattle.std.proofs.Common.{◌≡◌, ℕ, ◌+◌, ◌-◌, ◌*◌, ◌<◌, ◌≤◌, Bool, cond, eqb, List, [], ◌∷◌, ◌++◌, length, get_or, drop, set, None, sym, refl, ap, ap₂, ◌∙◌, subst, mul-le-mul_left, mul-add, add-one, arith}
+use Rattle.std.proofs.ByRecursion.{All-get_or}
+use Rattle.std.proofs.lemmas.List.{drop_more, drop_all}
 use Rattle.std.proofs.lemmas.Bool.{eq-eqb, ne_eqb}
 use Rattle.classes.specs.Recordings.{Sized, Codes, Recording, width, final, last}
 use Rattle.classes.specs.Evenness.{Even}
-use Rattle.extractors.specs.Lanes.{lane_from, lane, kept, blum}
+use Rattle.extractors.specs.Lanes.{lane_from, lane, init, kept, blum}
 use Rattle.extractors.specs.Bits.{gather}
+use Rattle.extractors.specs.Rows.{Filed}
 use Rattle.extractors.specs.Calls.{due, Written}
+use Rattle.extractors.proofs.Filing.{Filing, file_one}
 use Rattle.extractors.proofs.Judging.{unrefused}
 use Rattle.blum.specs.Totals.{total, total_zero, total_le, total_up}
 use Rattle.extractors.proofs.Gathers.{gather_next}
-use Rattle.blum.specs.Lanes.{led_if, lane_short, lanes_length}
-use Rattle.blum.specs.Keeps.{part, part_short, init_take}
+use Rattle.blum.specs.Lanes.{led_if, lanes_length}
+use Rattle.blum.specs.Keeps.{part_short}
 use Rattle.blum.specs.BlumEven.{kept_recording, blum_none}
 
 -- THE LANE OF A STATE, FROM THE CODE AT i ON
 
 module _ (x : List ℕ) (s i : ℕ) where
-  pub visit : i + 1 < length x → get_or x i 0 ≡ s → lane s (drop i x) ≡ get_or x (i + 1) 0 ∷ lane s (drop (i + 1) x)
+  visit : i + 1 < length x → get_or x i 0 ≡ s → lane s (drop i x) ≡ get_or x (i + 1) 0 ∷ lane s (drop (i + 1) x)
   visit h e =
       let p : i < length x = omega arith in
       ap (lane s) (drop_more x i 0 p) ∙ ap (lane_from s (get_or x i 0)) (drop_more x (i + 1) 0 h)
@@ -28,43 +31,36 @@ module _ (x : List ℕ) (s i : ℕ) where
   other_state a [] e = refl
   other_state a (b ∷ r) e = ap (λ t. led_if t b (lane_from s b r)) (ne_eqb a s e)
 
-  pub pass : i < length x → (get_or x i 0 ≡ s → ⊥) → lane s (drop i x) ≡ lane s (drop (i + 1) x)
+  pass : i < length x → (get_or x i 0 ≡ s → ⊥) → lane s (drop i x) ≡ lane s (drop (i + 1) x)
   pass h e = ap (lane s) (drop_more x i 0 h) ∙ other_state (get_or x i 0) (drop (i + 1) x) e
 
   pub at_end : i < length x → length x ≤ i + 1 → lane s (drop i x) ≡ lane s (drop (i + 1) x)
   at_end h e = ap (lane s) (drop_more x i 0 h) ∙ ap (lane_from s (get_or x i 0)) (drop_all (i + 1) x e) ∙ sym (ap (lane s) (drop_all (i + 1) x e))
 
--- a list that grows by what one turn takes from the rest
-pub list_more : {X : Type 0} (all done rest rest' : List X) (y : X) → all ≡ done ++ rest → rest ≡ y ∷ rest' → (done' : List X) → done' ≡ done ++ (y ∷ []) → all ≡ done' ++ rest'
-list_more all done rest rest' y e r done' d = e ∙ ap (λ z. done ++ z) r ∙ sym (append_assoc done (y ∷ []) rest') ∙ ap (λ z. z ++ rest') (sym d)
-
-pub list_all : {X : Type 0} (all done rest : List X) → all ≡ done ++ rest → rest ≡ [] → done ≡ all
-list_all all done rest e r = sym (e ∙ ap (λ z. done ++ z) r ∙ append-nil done)
+-- the code v after a visit to c is filed
+pub exit_filed : (m : ℕ) (x : List ℕ) (i : ℕ) (lanes : List (List ℕ)) → Filing m lane x i lanes → Codes m x → (c v : ℕ) → i + 1 < length x → c ≡ get_or x i 0 → v ≡ get_or x (i + 1) 0
+    → (lanes' : List (List ℕ)) → lanes' ≡ set lanes c (get_or lanes c [] ++ (v ∷ [])) → Filing m lane x (i + 1) lanes'
+exit_filed m x i lanes so_far codes c v h at next lanes' is =
+    let here : c < m = omega (arith, All-get_or (λ b. b < m) x i 0 (omega arith) codes) in
+    let one : lane c (drop i x) ≡ v ∷ lane c (drop (i + 1) x) = visit x c i h (sym at) ∙ ap (λ b. b ∷ lane c (drop (i + 1) x)) (sym next) in
+    file_one m lane x i lanes so_far c v here one (λ s ne. pass x s i (omega arith) (λ e. ne (sym e ∙ sym at))) lanes' is
 
 -- THE KEPT EXITS
 
-last_at : (a : ℕ) (y : List ℕ) → final a y ≡ get_or (a ∷ y) (length (a ∷ y) - 1) 0
-last_at a y = let e : length y ≡ length (a ∷ y) - 1 = omega arith in at a y ∙ ap (λ n. get_or (a ∷ y) n 0) e
+last_at : (x : List ℕ) → last x ≡ get_or x (length x - 1) 0
+last_at [] = refl
+last_at (a ∷ y) = let e : length y ≡ length (a ∷ y) - 1 = omega arith in at a y ∙ ap (λ n. get_or (a ∷ y) n 0) e
   where
     at : (b : ℕ) (z : List ℕ) → final b z ≡ get_or (b ∷ z) (length z) 0
     at b [] = refl
     at b (c ∷ z) = at c z
 
--- what is kept is the front of the lane
-pub kept_front : (x : List ℕ) (s k : ℕ) → 0 < length x → k ≡ cond (eqb (get_or x (length x - 1) 0) s) (length (lane s x)) (length (lane s x) - 1) → (kept s x ≡ take k (lane s x)) × (k ≤ length (lane s x))
-kept_front [] s k h r = absurd (omega arith)
-kept_front (a ∷ y) s k h r = at (eqb (final a y) s) (r ∙ ap (λ d. cond (eqb d s) (length l) (length l - 1)) (sym (last_at a y)))
-  where
-    l : List ℕ
-    l = lane_from s a y
-
-    at : (whole : Bool) → k ≡ cond whole (length l) (length l - 1) → (part whole l ≡ take k l) × (k ≤ length l)
-    at true n = (sym (take_all k l (omega arith)), omega arith)
-    at false n = (init_take l ∙ ap (λ j. take j l) (sym n), omega arith)
-
-pub lane_fits : (s : ℕ) (x : List ℕ) → length (lane s x) ≤ length x
-lane_fits s [] = omega arith
-lane_fits s (a ∷ y) = omega (arith, lane_short s a y)
+-- what is kept of the row k of the lanes, where b is the last code
+pub exits_kept : (m : ℕ) (x : List ℕ) (lanes : List (List ℕ)) → Filed m lane x lanes → (s k b : ℕ) (row exits : List ℕ) → s < m → k ≡ s → row ≡ get_or lanes k []
+    → b ≡ get_or x (length x - 1) 0 → exits ≡ cond (eqb b s) row (init row) → exits ≡ kept s x
+exits_kept m x lanes filed s k b row exits hs same at end is =
+    let e : row ≡ lane s x = at ∙ ap (λ t. get_or lanes t []) same ∙ filed.each s hs in
+    is ∙ ap₂ (λ d l. cond (eqb d s) l (init l)) (end ∙ sym (last_at x)) e
 
 -- ROOM FOR THE EXITS OF ALL STATES
 
@@ -87,17 +83,16 @@ module _ (m : ℕ) (x : List ℕ) (s : ℕ) (hx : Codes m x) (hs : s < m) where
       )
 
   -- room for one state more
-  pub room_next : (w W at n : ℕ) → w ≡ W → at ≤ W * exits_below s x → n ≡ length (kept s x) → at + w * n ≤ W * length x
-  room_next w W at n v h e =
-      let few : exits_below s x + n ≤ length x = omega (arith, exits_fit) in
-      let most : at + W * n ≤ W * length x = omega (arith, mul-add W (exits_below s x) n, mul-le-mul_left W few) in
-      subst (λ z. at + z * n ≤ W * length x) (sym v) most
+  pub room_next : (W at : ℕ) (exits : List ℕ) → exits ≡ kept s x → at ≤ W * exits_below s x → at + W * length exits ≤ W * length x
+  room_next W at exits is h =
+      let few : exits_below s x + length exits ≤ length x = omega (arith, exits_fit, ap length is) in
+      omega (arith, mul-add W (exits_below s x) (length exits), mul-le-mul_left W few)
 
 exits_next : (s : ℕ) (x : List ℕ) → exits_below (s + 1) x ≡ exits_below s x + length (kept s x)
 unfolding exits_below
 exits_next s x = ap (λ k. total k (λ t. length (kept t x))) (add-one s)
 
-pub yield_next : (W s : ℕ) (x : List ℕ) (at k n : ℕ) → at ≤ W * exits_below s x → k ≤ W * n → n ≡ length (kept s x) → at + k ≤ W * exits_below (s + 1) x
+yield_next : (W s : ℕ) (x : List ℕ) (at k n : ℕ) → at ≤ W * exits_below s x → k ≤ W * n → n ≡ length (kept s x) → at + k ≤ W * exits_below (s + 1) x
 yield_next W s x at k n h l e =
     let t : exits_below (s + 1) x ≡ exits_below s x + n = exits_next s x ∙ ap (λ z. exits_below s x + z) (sym e) in
     omega (arith, ap (λ z. W * z) t, mul-add W (exits_below s x) n)

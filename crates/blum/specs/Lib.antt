@@ -1,5 +1,4 @@
 pub mod PilesEven
-pub mod Scratch
 pub mod PileTheorems
 pub mod BlumEven
 pub mod Totals

@@ -1,20 +1,19 @@
 //! The Blum layer: the lanes of a recording go one by one to the extractor below.
-ghost use Rattle.std.specs.Prelude.{◌≡◌, ◌-◌, ◌*◌, ◌≤◌, length, if◌then◌else◌, nat_eq};
+ghost use Rattle.std.specs.Prelude.{◌≡◌, ◌*◌, ◌≤◌, IfOk, length, if◌then◌else◌, nat_eq};
 ghost use Rattle.classes.specs.Recordings.{Recording, Sized, width as width_of};
-ghost use Rattle.extractors.specs.Lanes.{blum};
+ghost use Rattle.extractors.specs.Lanes.{blum, init, lane};
 ghost use Rattle.extractors.specs.Piles.{bits};
 ghost use Rattle.extractors.specs.Piles.Pile.{laned};
-ghost use Rattle.blum.specs.Scratch.{Filed};
 ghost use Rattle.extractors.specs.Calls.{Filled};
+ghost use Rattle.extractors.specs.Rows.{Filed};
 ghost use Rattle.blum.specs.PileTheorems.{counts_even};
 
 use extractors::fault::ExtractorFault;
 use extractors::interface::SymbolExtractor;
-use extractors::judge::{judge, width};
-use std::alloc::Global;
-
-/// The most states that an alphabet has.
-const MOST_STATES: usize = 16;
+use extractors::judge::width;
+use extractors::rows::Rows;
+use extractors::scratch::extract_by;
+use std::alloc::{AllocError, Global};
 
 /// Gives the extractor below the exits of each state in turn, states from 0 upward.
 #[derive(Drop)]
@@ -22,66 +21,59 @@ pub struct Blum<E> {
     pub below: E,
 }
 
-/// Files the code after each visit under the state visited: the lane of a state stands at the front of its row, each row
-/// being as long as the recording. Answers the lengths of the lanes.
-fn file_exits(size: u8, recording: &[u8], rows: &mut [u8]) -> [usize; MOST_STATES]
-    requires sized { Sized size }
-    requires recorded { Recording size recording.now }
-    requires room { size * length recording.now ≤ length rows.old }
-    ensures { Filed size recording.now result rows.new }
+/// Files the code after each visit under the state visited: the lane of each state.
+fn file_exits(heap: Global, size: u8, recording: &[u8]) -> Result<Rows, AllocError>
+    requires { Recording size recording.now }
+    ensures { IfOk result (Filed size lane recording.now) }
 {
-    let n = recording.len();
-    let mut lengths = [0; MOST_STATES];
+    let mut lanes = Rows::new(heap, usize::from(size))?;
+    // A loop over the codes with their index, which fills the lanes, is a rule of the project.
     for (i, code) in recording.iter().enumerate() {
-        if i + 1 < n {
-            let state = *code as usize;
-            let filled = lengths[state];
-            rows[state * n + filled] = recording[i + 1];
-            lengths[state] = filled + 1;
+        if let Some(next) = recording.get(i + 1) {
+            lanes.file(usize::from(*code), *next)?;
         }
     }
-    lengths
+    Ok(lanes)
 }
 
-/// How many exits of a lane are kept: all of the last code's, else all but the last.
-fn kept_exits(state: u8, last: u8, length: usize) -> usize
-    ensures { result ≡ (if nat_eq last state then length else length - 1) }
+/// The exits that are kept of a state's lane: all where the recording ends in the state, else all but the last.
+fn kept_exits(state: u8, last: u8, lane: &[u8]) -> &[u8]
+    ensures { result.now ≡ (if nat_eq last state then lane.now else init lane.now) }
 {
-    let left_out = if last == state { 0 } else { 1 };
-    length.saturating_sub(left_out)
+    if last == state {
+        return lane;
+    }
+    &lane[..lane.len().saturating_sub(1)]
 }
 
-/// Writes the bits of all kept exits to the front of the scratch slice, states from 0 upward.
-fn fill<E: SymbolExtractor>(
-    below: &E,
-    heap: Global,
-    size: u8,
-    recording: &[u8],
-    scratch: &mut [u8],
-) -> Result<usize, ExtractorFault>
-    requires sized { Sized size }
-    requires recorded { Recording size recording.now }
-    requires room { width_of size * length recording.now ≤ length scratch.old }
-    ensures { Filled (blum size (bits (E.SymbolExtractor.pile below.now) size) recording.now) scratch.old result scratch.new }
-{
-    let n = recording.len();
-    if n == 0 {
-        return Ok(0);
+impl<E: SymbolExtractor> Blum<E> {
+    // What is passed on is what the interface passes, so no struct holds it.
+    /// Writes the bits of all kept exits to the front of the scratch slice, states from 0 upward.
+    fn fill(
+        &self,
+        heap: Global,
+        size: u8,
+        recording: &[u8],
+        scratch: &mut [u8],
+    ) -> Result<usize, ExtractorFault>
+        requires sized { Sized size }
+        requires recorded { Recording size recording.now }
+        requires room { width_of size * length recording.now ≤ length scratch.old }
+        ensures { Filled (blum size (bits (E.SymbolExtractor.pile self.now.below) size) recording.now) scratch.old result scratch.new }
+    {
+        let Some(last) = recording.last() else {
+            return Ok(0);
+        };
+        let w = width(size);
+        let lanes = file_exits(heap, size, recording)?;
+        let mut at = 0;
+        for state in 0..size {
+            let exits = kept_exits(state, *last, lanes.row(usize::from(state)));
+            let part = &mut scratch[at..at + w * exits.len()];
+            at += self.below.extract(heap, size, exits, part)?;
+        }
+        Ok(at)
     }
-    let w = width(size);
-    let last = recording[n - 1];
-    let mut filed = vec![in heap; 0u8; size as usize * n]?;
-    let lengths = file_exits(size, recording, &mut filed);
-    let rows = filed.as_slice();
-    let mut at = 0;
-    for state in 0..size {
-        let k = kept_exits(state, last, lengths[state as usize]);
-        let start = state as usize * n;
-        let exits = &rows[start..start + k];
-        let got = below.extract(heap, size, exits, &mut scratch[at..at + w * k])?;
-        at += got;
-    }
-    Ok(at)
 }
 
 impl<E: SymbolExtractor> SymbolExtractor for Blum<E> {
@@ -96,10 +88,8 @@ impl<E: SymbolExtractor> SymbolExtractor for Blum<E> {
         recording: &[u8],
         tray: &mut [u8],
     ) -> Result<usize, ExtractorFault> {
-        judge(size, recording, tray.len())?;
-        let mut scratch = vec![in heap; 0u8; width(size) * recording.len()]?;
-        let n = fill(&self.below, heap, size, recording, &mut scratch)?;
-        tray[0..n].copy_from_slice(&scratch[0..n]);
-        Ok(n)
+        extract_by(heap, size, recording, tray, |scratch| {
+            self.fill(heap, size, recording, scratch)
+        })
     }
 }

@@ -22,19 +22,6 @@ use Rattle.noise_file.specs.Reading.{ReadAs}
 use Rattle.clean.specs.Keys.{after_key, Dealt}
 use Rattle.clean.specs.Cleaning.{tray_room, EntriesCleaned, Ready}
 
-first_cases : {F : Type 0} (o : Option F) (R : F → Type 0) (A : Type 0) → First o R A → ((f : F) × R f) ⊎ A
-first_cases (Some f) R A x = inl (f, x)
-first_cases None R A x = inr x
-
-fed_not_refused : {X : Type 0} (gain : ℕ) (lean : ℤ) (f : WellFault) → fed gain lean ≡ refused f → X
-fed_not_refused gain lean f e = let z : ◌≡◌ {A = ℕ} 0 1 = cc in elim (zero_not_one z) [ ]
-  where
-    zero_not_one : ◌≡◌ {A = ℕ} 0 1 → ⊥
-    zero_not_one z = omega (arith, z)
-
-pub refused_same : (f f' : WellFault) → refused f ≡ refused f' → f ≡ f'
-refused_same f f' e = cc
-
 -- a lawful pile's bits are at most the width for each code
 yield_fits : (p : Pile) (m : ℕ) (x : List ℕ) → Lawful p → Sized m → Recording m x → length (bits p m x) ≤ width m * length x
 yield_fits p m x law sized rec = yield_bound m sized (bits p m) ((piles_even p law).0 m sized) x rec
@@ -62,18 +49,16 @@ rest p m x s s' o sized rec step =
     subst (λ d. First d (λ e. Kept s o s' (Extractor e)) (Rest s (bits p m x) o s')) (unrefused m x tray_room sized rec (fits_tray m x rec)) step.1
 
 rest_poured : (s s' : State) (b : List Bool) (gain : ℕ) (lean : ℤ) → Rest s b (fed gain lean) s' → s'.poured ≡ s.poured + length b
-rest_poured s s' b gain lean (inl kept) = fed_not_refused gain lean (Extractor Memory) kept.0
-rest_poured s s' b gain lean (inr r) = at (first_cases (no_room s (length b)) (Kept s (fed gain lean) s') ((fed gain lean ≡ fed (length b) (lean_of b)) × (s' ≡ filled s b)) r)
+rest_poured s s' b gain lean (inl kept) = let no = kept.0 in cc
+rest_poured s s' b gain lean (inr r) = at (no_room s (length b)) r
   where
-    at : ((f : WellFault) × Kept s (fed gain lean) s' f) ⊎ ((fed gain lean ≡ fed (length b) (lean_of b)) × (s' ≡ filled s b)) → s'.poured ≡ s.poured + length b
-    at (inl k) = fed_not_refused gain lean k.0 k.1.0
-    at (inr a) = ap (λ (t : State). t.poured) a.1
+    at : (o : Option WellFault) → First o (Kept s (fed gain lean) s') ((fed gain lean ≡ fed (length b) (lean_of b)) × (s' ≡ filled s b)) → s'.poured ≡ s.poured + length b
+    at (Some f) kept = let no = kept.0 in cc
+    at None a = ap (λ (t : State). t.poured) a.1
 
 rest_refused : (s s' : State) (b : List Bool) (f : WellFault) → no_room s (length b) ≡ None → Rest s b (refused f) s' → f ≡ Extractor Memory
-rest_refused s s' b f roomy (inl kept) = refused_same f (Extractor Memory) kept.0
-rest_refused s s' b f roomy (inr r) =
-    let answered = subst (λ d. First d (Kept s (refused f) s') ((refused f ≡ fed (length b) (lean_of b)) × (s' ≡ filled s b))) roomy r in
-    fed_not_refused (length b) (lean_of b) f (sym answered.0)
+rest_refused s s' b f roomy (inl kept) = let same = kept.0 in cc
+rest_refused s s' b f roomy (inr r) = let answered = rw roomy at r in let no = answered.0 in cc
 
 module _ (bs : List ℕ) (accepted : Accepted bs) where
   body_short : (i : ℕ) → i < entries bs → length (body bs i) ≤ 4096
@@ -120,12 +105,12 @@ entries_bounds bs accepted (suc n) text s e =
     let kept = dealt_keeps (key_length bs) entry.poured_into entry.keys_after.keys s entry.keys_after.dealt_keys in
     (omega (arith, before.0, poured, kept.0), omega (arith, kept.1, accepted.short_key))
 
--- entry i + 1 finds a ready well
-pub next_ready : (bs : List ℕ) → Accepted bs → (i : ℕ) (text : List ℕ) (s : State) → i < entries bs → EntriesCleaned bs i text s → Ready bs (i + 1) s
-next_ready bs accepted i text s more e =
-    let before = entries_bounds bs accepted i text s e in
+-- entry n finds a ready well
+pub next_ready : (bs : List ℕ) → Accepted bs → (n : ℕ) (text : List ℕ) (s : State) → 1 ≤ n → n ≤ entries bs → EntriesCleaned bs (n - 1) text s → Ready bs n s
+next_ready bs accepted n text s some listed e =
+    let before = entries_bounds bs accepted (n - 1) text s e in
     record {
-      listed = (omega arith, omega arith);
+      listed = (some, listed);
       room_held = omega (arith, before.1);
       room_poured = omega (arith, before.0, accepted.few_entries);
     }

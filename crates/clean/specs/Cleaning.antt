@@ -4,16 +4,15 @@
 --   EntryCleaned      the same, its line added to a text, and keys dealt onto it
 --   EntriesCleaned    the text and the state of the well after the first n entries, fed in order to a well of mark 1
 --   Ready             the file lists entry n, and a well has room for all the bits that an entry can give
---   LineRefused       why an entry has no line: its feed was refused, or memory was wanting for the text
 --   Wanting           a fault that stands for want of memory: its number is 0
 --   FileCleaned       the text of an accepted file: all its entries in order, then the last line
 --   Cleaned           the text of a file: the line of the refusal that is due, or else that of an accepted file
-use Rattle.std.specs.Prelude.{◌≡◌, ℕ, zero, suc, ◌+◌, ◌-◌, ◌≤◌, List, [], ◌++◌, length, ℤ, Err}
+use Rattle.std.specs.Prelude.{◌≡◌, ℕ, zero, suc, ◌+◌, ◌-◌, ◌≤◌, List, [], ◌++◌, length, ℤ}
 use Rattle.well.specs.State.{State, fresh}
 use Rattle.well.specs.Steps.{First, Outcome.fed}
 use Rattle.noise_file.specs.Contents.{entries, key_length, body}
 use Rattle.noise_file.specs.Faults.{refusal_of}
-use Rattle.noise_file.specs.Feeds.{StepOf, Listed, EntryFed}
+use Rattle.noise_file.specs.Feeds.{StepOf, Listed}
 use Rattle.noise_file.specs.Feeds as feed
 use Rattle.noise_file.specs.Letters.{kind_letter}
 use Rattle.noise_file.specs.Rules.{due}
@@ -46,10 +45,6 @@ pub record Ready (bs : List ℕ) (n : ℕ) (s : State) : Type 0 where
   pub listed : Listed bs n
   pub room_held : length s.queue + tray_room ≤ 16640
   pub room_poured : s.poured + tray_room ≤ 16777216
-
-abbrev pub LineRefused : List ℕ → ℕ → ℕ → State → CleanFault → State → Type 0
-LineRefused bs n room s Memory s' = Unit {0}
-LineRefused bs n room s (Entry e) s' = EntryFed bs n room s (Err e) s'
 
 abbrev pub Wanting : CleanFault → Type 0
 Wanting Memory = Unit {0}

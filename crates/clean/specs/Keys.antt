@@ -5,7 +5,8 @@
 --   Dealt       keys dealt in order, each of the oldest bits, until fewer are held than a key needs
 --   key_lines   the lines of keys, in order
 --   DealtOnto   the same, with the lines of the keys added to a text
-use Rattle.std.specs.Prelude.{◌≡◌, ℕ, ◌*◌, ◌<◌, ◌≤◌, Bool, true, false, List, [], ◌∷◌, ◌++◌, length}
+use Rattle.std.specs.Prelude.{◌≡◌, ℕ, ◌*◌, ◌<◌, ◌≤◌, List, [], ◌∷◌, ◌++◌, length, Ok, Err, Result}
+use Rattle.well.specs.declared.fault.WellFault.{WellFault}
 use Rattle.well.specs.Packing.{packed}
 use Rattle.well.specs.State.{State}
 use Rattle.well.specs.Steps.{dealt, settled, next_slip}
@@ -17,9 +18,9 @@ Enough s k = (1 ≤ k) × (k ≤ 32) × (8 * k ≤ length s.queue)
 abbrev pub after_key : State → ℕ → State
 after_key s k = settled (dealt s k) (next_slip s k)
 
-abbrev pub NextKey : State → List ℕ → Bool → List ℕ → State → Type 0
-NextKey s key true key' s' = Enough s (length key) × (key' ≡ packed (length key) s.queue) × (s' ≡ after_key s (length key))
-NextKey s key false key' s' = (Enough s (length key) → ⊥) × (key' ≡ key) × (s' ≡ s)
+abbrev pub NextKey : State → List ℕ → Result (Unit {0}) WellFault → List ℕ → State → Type 0
+NextKey s key (Ok _) key' s' = Enough s (length key) × (key' ≡ packed (length key) s.queue) × (s' ≡ after_key s (length key))
+NextKey s key (Err _) key' s' = (Enough s (length key) → ⊥) × (key' ≡ key) × (s' ≡ s)
 
 abbrev pub Dealt : ℕ → State → List (List ℕ) → State → Type 0
 Dealt k s [] s' = (length s.queue < 8 * k) × (s' ≡ s)

@@ -2,6 +2,7 @@
 ghost use Rattle.std.specs.Prelude.{◌≡◌};
 ghost use Rattle.clean.specs.declared.fault.CleanFault.TheVariants.{Memory, Entry};
 
+use extractors::fault::Fault;
 use noise_file::fault::EntryFault;
 use std::alloc::AllocError;
 use std::error::Error;
@@ -10,12 +11,13 @@ use std::fmt;
 /// Why a file is not cleaned to its end.
 #[derive(Clone, Copy, Debug)]
 pub enum CleanFault {
-    /// Memory was wanting for the text.
+    /// Memory was wanting.
     Memory,
     /// An entry could not be fed.
     Entry(EntryFault),
 }
 
+// The conversions are written by hand, since a derived one would not say what it gives.
 impl From<AllocError> for CleanFault {
     ghost from_gives = { λ _ r. r ≡ Memory };
 

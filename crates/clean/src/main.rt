@@ -13,14 +13,10 @@ use std::io::Read;
 /// The most bytes that are read: one more than the longest noise file has.
 const MOST_INPUT: u64 = 61_503;
 
-fn run(rt: &HostRuntime) -> anyhow::Result<()> {
+fn main(rt: HostRuntime) -> anyhow::Result<()> {
     let mut bytes = Vec::new(rt.alloc());
     rt.stdin().take(MOST_INPUT).read_to_end(&mut bytes)?;
     let text = work::clean(rt.alloc(), bytes)?;
     rt.print(text)?;
     Ok(())
-}
-
-fn main(rt: HostRuntime) -> anyhow::Result<()> {
-    run(&rt)
 }

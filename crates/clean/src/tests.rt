@@ -1,19 +1,33 @@
 //! Whole files cleaned, with the text that the rules give for them, and single lines.
-use crate::text::entry_line;
+use crate::text::EntryLine;
 use crate::work::clean;
+use std::alloc::Global;
 use std::test::Fail;
+
+/// The text of a whole file.
+fn cleaned(heap: Global, bytes: &[u8]) -> Result<String, Fail> {
+    Ok(clean(heap, Vec::from_slice(heap, bytes)?)?)
+}
 
 #[test]
 fn refused_file_is_one_line(rt: HostRuntime) -> Result<(), Fail> {
-    let text = clean(rt.alloc(), Vec::from_slice(rt.alloc(), b"\x03")?)?;
+    let text = cleaned(rt.alloc(), b"\x03")?;
     assert!(rt; text.as_str() == "refused 7 file 1\n");
     Ok(())
 }
 
 #[test]
 fn lean_may_be_negative(rt: HostRuntime) -> Result<(), Fail> {
-    let line = entry_line(rt.alloc(), 2, 'L', 'v', 11, 3, -1)?;
-    assert!(rt; line.as_str() == "2 L v 11 3 -1\n");
+    let line = EntryLine {
+        number: 2,
+        kind: 'L',
+        tower: 'v',
+        symbols: 11,
+        gain: 3,
+        lean: -1,
+    };
+    let text = line.to_string(rt.alloc())?;
+    assert!(rt; text.as_str() == "2 L v 11 3 -1\n");
     Ok(())
 }
 
@@ -24,7 +38,7 @@ const THREE_CLEANED: &str =
 
 #[test]
 fn three_entries_make_a_key(rt: HostRuntime) -> Result<(), Fail> {
-    let text = clean(rt.alloc(), Vec::from_slice(rt.alloc(), THREE_ENTRIES)?)?;
+    let text = cleaned(rt.alloc(), THREE_ENTRIES)?;
     assert!(rt; text.as_str() == THREE_CLEANED);
     Ok(())
 }
@@ -37,7 +51,7 @@ const CAPITALS_CLEANED: &str =
 
 #[test]
 fn capitals_put_lanes_on_top(rt: HostRuntime) -> Result<(), Fail> {
-    let text = clean(rt.alloc(), Vec::from_slice(rt.alloc(), CAPITALS)?)?;
+    let text = cleaned(rt.alloc(), CAPITALS)?;
     assert!(rt; text.as_str() == CAPITALS_CLEANED);
     Ok(())
 }

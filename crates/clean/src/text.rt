@@ -1,64 +1,87 @@
 //! The lines that the program prints.
-ghost use Rattle.std.specs.Prelude.{◌≡◌, ◌<◌, IfOk, string_bytes};
-ghost use Rattle.clean.specs.Lines.{entry_line, hex, key_line, last_line, refusal_line};
+ghost use Rattle.std.specs.Prelude.{Some};
+ghost use Rattle.clean.specs.Lines.{entry_line, key_line, last_line, refusal_line};
 
-use std::alloc::{AllocError, Global};
+use std::fmt;
 
 /// The line of an entry.
-pub(crate) fn entry_line(
-    heap: Global,
-    number: usize,
-    kind: char,
-    tower: char,
-    symbols: usize,
-    gain: u32,
-    lean: i32,
-) -> Result<String, AllocError>
-    ensures { IfOk result (λ t. string_bytes t ≡ entry_line number kind tower symbols gain lean) }
-{
-    format!(in heap; "{number} {kind} {tower} {symbols} {gain} {lean}\n")
+#[derive(Clone, Copy)]
+pub(crate) struct EntryLine {
+    pub number: usize,
+    pub kind: char,
+    pub tower: char,
+    /// How many symbols were recorded.
+    pub symbols: usize,
+    /// How many bits they gave.
+    pub gain: u32,
+    pub lean: i32,
 }
 
-/// The lowercase hexadecimal digit of a number below 16.
-fn hex_digit(n: u8) -> char
-    requires { n < 16 }
-    ensures { result ≡ hex n }
-{
-    if n < 10 {
-        (b'0' + n) as char
-    } else {
-        (b'a' + (n - 10)) as char
+impl fmt::Display for EntryLine {
+    ghost output = { λ l. Some (entry_line l.number l.kind l.tower l.symbols l.gain l.lean) };
+
+    fn fmt<W: fmt::Write>(&self, f: &mut fmt::Formatter<W>) -> fmt::Result {
+        let EntryLine {
+            number,
+            kind,
+            tower,
+            symbols,
+            gain,
+            lean,
+        } = *self;
+        writeln!(f, "{number} {kind} {tower} {symbols} {gain} {lean}")
     }
 }
 
 /// The line of a key: two hexadecimal digits a byte.
-pub(crate) fn key_line(heap: Global, key: &[u8]) -> Result<String, AllocError>
-    ensures { IfOk result (λ t. string_bytes t ≡ key_line key.now) }
-{
-    let mut line = String::from_str(heap, "key ")?;
-    for byte in key {
-        line.push(hex_digit(*byte / 16))?;
-        line.push(hex_digit(*byte % 16))?;
+#[derive(Clone, Copy)]
+pub(crate) struct KeyLine<'a>(pub &'a [u8]);
+
+impl<'a> fmt::Display for KeyLine<'a> {
+    ghost output = { λ l. Some (key_line l.0.now) };
+
+    fn fmt<W: fmt::Write>(&self, f: &mut fmt::Formatter<W>) -> fmt::Result {
+        write!(f, "key ")?;
+        for &byte in self.0 {
+            write!(f, "{byte:02x}")?;
+        }
+        writeln!(f)
     }
-    line.push('\n')?;
-    Ok(line)
 }
 
 /// The last line: the bits poured, loaded and held.
-pub(crate) fn last_line(
-    heap: Global,
-    poured: u32,
-    loaded: u32,
-    held: usize,
-) -> Result<String, AllocError>
-    ensures { IfOk result (λ t. string_bytes t ≡ last_line poured loaded held) }
-{
-    format!(in heap; "poured {poured} loaded {loaded} held {held}\n")
+#[derive(Clone, Copy)]
+pub(crate) struct LastLine {
+    pub poured: u32,
+    pub loaded: u32,
+    pub held: usize,
+}
+
+impl fmt::Display for LastLine {
+    ghost output = { λ l. Some (last_line l.poured l.loaded l.held) };
+
+    fn fmt<W: fmt::Write>(&self, f: &mut fmt::Formatter<W>) -> fmt::Result {
+        let LastLine {
+            poured,
+            loaded,
+            held,
+        } = *self;
+        writeln!(f, "poured {poured} loaded {loaded} held {held}")
+    }
 }
 
 /// The line of a refused file.
-pub(crate) fn refusal_line(heap: Global, number: u8, place: usize) -> Result<String, AllocError>
-    ensures { IfOk result (λ t. string_bytes t ≡ refusal_line number place) }
-{
-    format!(in heap; "refused {number} file {place}\n")
+#[derive(Clone, Copy)]
+pub(crate) struct RefusalLine {
+    pub number: u8,
+    pub place: usize,
+}
+
+impl fmt::Display for RefusalLine {
+    ghost output = { λ l. Some (refusal_line l.number l.place) };
+
+    fn fmt<W: fmt::Write>(&self, f: &mut fmt::Formatter<W>) -> fmt::Result {
+        let RefusalLine { number, place } = *self;
+        writeln!(f, "refused {number} file {place}")
+    }
 }

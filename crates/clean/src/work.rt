@@ -1,20 +1,74 @@
 //! Cleaning a file: its entries fed in order, keys dealt after each.
-ghost use Rattle.std.specs.Prelude.{◌≡◌, ◌≤◌, length, string_bytes, MatchResult};
-ghost use Rattle.well.specs.State.{fresh};
+ghost use Rattle.std.specs.Prelude.{◌≡◌, length, string_bytes, IfOk, MatchResult};
 ghost use Rattle.well.specs.View.{state};
-ghost use Rattle.noise_file.specs.Contents.{entries, key_length};
-ghost use Rattle.clean.specs.Cleaning.{Cleaned, EntriesCleaned, EntryCleaned, EntryFedLine, FileCleaned, LineRefused, Ready, Wanting, tray_room};
+ghost use Rattle.noise_file.specs.Contents.{key_length};
+ghost use Rattle.clean.specs.Cleaning.{Cleaned, EntriesCleaned, EntryCleaned, FileCleaned, Ready, Wanting, tray_room};
 
 use crate::deal::deal_keys;
 use crate::fault::CleanFault;
-use crate::text::{entry_line, last_line, refusal_line};
+use crate::text::{EntryLine, LastLine, RefusalLine};
+use extractors::fault::Fault;
 use extractors::judge::{GREATEST_SIZE, MOST_CODES, room};
 use noise_file::file::NoiseFile;
-use std::alloc::Global;
+use std::alloc::{AllocError, Global};
+use std::fmt::Write;
 use well::store::Well;
 
 /// The mark of the program's well.
 const MARK: u32 = 1;
+
+/// A file that is being cleaned: its well, with the tray and the key buffer, and the text so far.
+#[derive(Drop)]
+struct Cleaning<'a> {
+    heap: Global,
+    file: &'a NoiseFile,
+    well: Well,
+    tray: Vec<u8>,
+    key: Vec<u8>,
+    text: String,
+    ghost whole_tray: { length tray.items ≡ tray_room },
+    ghost whole_key: { length key.items ≡ key_length file.now.bytes.items },
+}
+
+impl<'a> Cleaning<'a> {
+    /// Makes ready to clean a file; no entry is cleaned.
+    fn new(heap: Global, file: &'a NoiseFile) -> Result<Cleaning<'a>, AllocError>
+        ensures { IfOk result (λ c. (c.file ≡ file.entry) × EntriesCleaned file.now.bytes.items 0 (string_bytes c.text) (state c.well)) }
+    {
+        Ok(Cleaning {
+            heap,
+            file,
+            well: Well::new(heap, MARK)?,
+            tray: vec![in heap; 0u8; room(GREATEST_SIZE, MOST_CODES)]?,
+            key: vec![in heap; 0u8; file.key_length()]?,
+            text: String::new(heap),
+        })
+    }
+
+    /// Feeds an entry, adds its line to the text, and deals keys.
+    fn clean_entry(&mut self, number: usize) -> Result<(), CleanFault>
+        requires { Ready self.old.file.now.bytes.items number (state self.old.well) }
+        ensures file { self.new.file ≡ self.old.file }
+        ensures cleaned { MatchResult result (λ _. EntryCleaned self.old.file.now.bytes.items number (state self.old.well) (string_bytes self.old.text) (string_bytes self.new.text) (state self.new.well)) Wanting }
+    {
+        let (gain, lean) = self
+            .file
+            .feed(number, self.heap, &mut self.well, &mut self.tray)?;
+        let entry = self.file.entry(number).unwrap();
+        let body = entry.body();
+        let line = EntryLine {
+            number,
+            kind: entry.kind_letter(),
+            tower: body.tower.letter(),
+            symbols: body.letters.len(),
+            gain,
+            lean,
+        };
+        write!(self.text, "{line}")?;
+        deal_keys(&mut self.well, &mut self.key, &mut self.text)?;
+        Ok(())
+    }
+}
 
 /// Cleans the bytes of a noise file; the text is what the program prints.
 pub(crate) fn clean(heap: Global, bytes: Vec<u8>) -> Result<String, CleanFault>
@@ -22,7 +76,13 @@ pub(crate) fn clean(heap: Global, bytes: Vec<u8>) -> Result<String, CleanFault>
 {
     match NoiseFile::open(bytes) {
         Ok(file) => clean_file(heap, &file),
-        Err(fault) => Ok(refusal_line(heap, fault.number(), fault.place())?),
+        Err(fault) => {
+            let line = RefusalLine {
+                number: fault.number(),
+                place: fault.place(),
+            };
+            Ok(line.to_string(heap)?)
+        }
     }
 }
 
@@ -30,89 +90,16 @@ pub(crate) fn clean(heap: Global, bytes: Vec<u8>) -> Result<String, CleanFault>
 fn clean_file(heap: Global, file: &NoiseFile) -> Result<String, CleanFault>
     ensures { MatchResult result (λ t. FileCleaned file.now.bytes.items (string_bytes t)) Wanting }
 {
-    let mut well = Well::new(heap, MARK)?;
-    let mut tray = vec![in heap; 0u8; room(GREATEST_SIZE, MOST_CODES)]?;
-    let mut key = vec![in heap; 0u8; file.key_length()]?;
-    let mut text = clean_entries(
-        heap,
-        file,
-        &mut well,
-        tray.as_mut_slice(),
-        key.as_mut_slice(),
-    )?;
-    let last = last_line(heap, well.poured(), well.loaded(), well.held())?;
-    text.push_str(last.as_str())?;
-    Ok(text)
-}
-
-/// Feeds the entries of a file in order, and deals keys after each.
-fn clean_entries(
-    heap: Global,
-    file: &NoiseFile,
-    well: &mut Well,
-    tray: &mut [u8],
-    key: &mut [u8],
-) -> Result<String, CleanFault>
-    requires new_well { state well.old ≡ fresh 1 }
-    requires tray_room { length tray.old ≡ tray_room }
-    requires key_length { length key.old ≡ key_length file.now.bytes.items }
-    requires some { 1 ≤ length key.old }
-    requires few { length key.old ≤ 32 }
-    ensures { MatchResult result (λ t. EntriesCleaned file.now.bytes.items (entries file.now.bytes.items) (string_bytes t) (state well.new)) Wanting }
-{
-    let mut text = String::new(heap);
-    for i in 0..file.entries() {
-        clean_entry(heap, file, i + 1, well, tray, key, &mut text)?;
+    let mut cleaning = Cleaning::new(heap, file)?;
+    for number in 1..=file.entries() {
+        cleaning.clean_entry(number)?;
     }
-    Ok(text)
-}
-
-/// Feeds an entry, adds its line to the text, and deals keys.
-fn clean_entry(
-    heap: Global,
-    file: &NoiseFile,
-    number: usize,
-    well: &mut Well,
-    tray: &mut [u8],
-    key: &mut [u8],
-    text: &mut String,
-) -> Result<(), CleanFault>
-    requires ready { Ready file.now.bytes.items number (state well.old) }
-    requires tray_room { length tray.old ≡ tray_room }
-    requires key_length { length key.old ≡ key_length file.now.bytes.items }
-    requires some { 1 ≤ length key.old }
-    requires few { length key.old ≤ 32 }
-    ensures { MatchResult result (λ _. EntryCleaned file.now.bytes.items number (state well.old) (string_bytes text.old) (string_bytes text.new) (state well.new)) Wanting }
-{
-    let line = feed_entry(heap, file, number, well, tray)?;
-    text.push_str(line.as_str())?;
-    deal_keys(heap, well, key, text)?;
-    Ok(())
-}
-
-/// Feeds an entry and answers its line.
-fn feed_entry(
-    heap: Global,
-    file: &NoiseFile,
-    number: usize,
-    well: &mut Well,
-    tray: &mut [u8],
-) -> Result<String, CleanFault>
-    ensures { MatchResult result (λ line. EntryFedLine file.now.bytes.items number (length tray.old) (state well.old) (string_bytes line) (state well.new)) (λ f. LineRefused file.now.bytes.items number (length tray.old) (state well.old) f (state well.new)) }
-{
-    let (gain, lean) = file.feed(number, heap, well, tray)?;
-    let Ok(entry) = file.entry(number) else {
-        unreachable()
+    let Cleaning { well, mut text, .. } = cleaning;
+    let line = LastLine {
+        poured: well.poured(),
+        loaded: well.loaded(),
+        held: well.held(),
     };
-    let body = entry.body();
-    let line = entry_line(
-        heap,
-        number,
-        entry.kind_letter(),
-        body.tower.letter(),
-        body.letters.len(),
-        gain,
-        lean,
-    )?;
-    Ok(line)
+    write!(text, "{line}")?;
+    Ok(text)
 }

@@ -1,52 +1,31 @@
--- The refusals of an extractor: the first stray code as a loop finds it, and what a call that nothing refuses was given. Assumes nothing.
-use Rattle.std.proofs.Common.{◌≡◌, ℕ, suc, ◌+◌, ◌*◌, ◌<◌, ◌≤◌, List, [], ◌∷◌, length, get_or, drop, Some, None, Option, sym, ap, ◌∙◌, subst, ⊎_elim, arith, le-ltb, lt-ltb}
-use Rattle.std.proofs.lemmas.List.{drop_more, drop_all}
+-- The refusals of an extractor: the first stray code as a search finds it, and what a call that nothing refuses was given. Assumes nothing.
+use Rattle.std.proofs.Common.{◌≡◌, ℕ, suc, ◌*◌, ◌<◌, ◌≤◌, Bool, true, false, Bor, Iter, Some, List, [], ◌∷◌, length, None, Option, refl, sym, ◌∙◌, subst, ⊎_elim, add-one, arith, le-ltb, lt-ltb}
+use Rattle.std.proofs.lemmas.Iterator.{IsFirst-from_position, YieldsList-from_slice, index_from_first}
+use Rattle.std.proofs.iter.Yields.{fronts}
+use denote.Param.Members.{Mut}
+use Rattle.std.specs.Fn.{Called}
+use Rattle.std.specs.Iterator.{FindsPosition}
+use Rattle.std.specs.Slice.Iter.{iter_rest}
+use Rattle.std.specs.List.{AllWithin, HoldsAt}
+use Rattle.std.specs.Option.{MatchOption, unwrap_or}
 use Rattle.std.proofs.lemmas.Bool.{cond-true, cond-false, cases_lt}
+use Rattle.std.proofs.lemmas.Bool.Decides.{nat_tests}
 use Rattle.classes.specs.Recordings.{Sized, Codes, Recording, width}
 use Rattle.extractors.specs.declared.fault.ExtractorFault.{ExtractorFault}
-use Rattle.extractors.specs.declared.fault.ExtractorFault.TheVariants.{Size, Code, Tray, Memory}
-use Rattle.extractors.specs.Calls.{first_stray, due_sized, due, RefusedAs}
+use Rattle.extractors.specs.declared.fault.ExtractorFault.TheVariants.{Memory}
+use Rattle.extractors.specs.Calls.{first_stray, due, RefusedAs}
 
--- THE LOOP
+-- what the search for a code that is not below the size finds
+pub stray_found : {F : Type 0} (g : Mut F (Bor ℕ × Unit {0}) Bool) (m : ℕ) (x : List ℕ) (s u : Iter ℕ) (f : F) (r : Option ℕ) → FindsPosition fronts g s f r u → iter_rest s ≡ x → ((y : Bor ℕ) (q : F) → Called g f (y, tt) true q → m ≤ y.now) → ((y : Bor ℕ) (q : F) → Called g f (y, tt) false q → (q ≡ f) × (y.now < m))
+    → MatchOption r (first_stray m x ≡ length x) (λ i. (i < length x) × (first_stray m x ≡ i))
+stray_found g m x s u f r ran whole over below = at r found (index_from_first (first_stray m) (λ c. m ≤ c) (λ c. c < m) refl (λ c x h. cond-false _ _ _ (le-ltb c m h)) (λ c x h. cond-true _ _ _ (lt-ltb c m h) ∙ sym (add-one (first_stray m x))) x r found)
+  where
+    found : MatchOption r (AllWithin (λ c. c < m) x 0 (length x)) (λ i. (i < length x) × HoldsAt (λ c. m ≤ c) x i × AllWithin (λ c. c < m) x 0 i)
+    found = IsFirst-from_position u f r (λ c. m ≤ c) (λ c. c < m) ran (YieldsList-from_slice x whole) over below
 
-module _ (m : ℕ) (x : List ℕ) (i : ℕ) (so_far : first_stray m x ≡ i + first_stray m (drop i x)) where
-  pub stray_more : i < length x → get_or x i 0 < m → first_stray m x ≡ (i + 1) + first_stray m (drop (i + 1) x)
-  stray_more h l =
-      let s : first_stray m (drop i x) ≡ suc (first_stray m (drop (i + 1) x)) = ap (first_stray m) (drop_more x i 0 h) ∙ cond-true _ _ _ (lt-ltb (get_or x i 0) m l) in
-      omega arith
-
-  pub stray_here : i < length x → m ≤ get_or x i 0 → first_stray m x ≡ i
-  stray_here h l =
-      let s : first_stray m (drop i x) ≡ 0 = ap (first_stray m) (drop_more x i 0 h) ∙ cond-false _ _ _ (le-ltb (get_or x i 0) m l) in
-      omega arith
-
-  pub stray_none : length x ≤ i → first_stray m x ≡ i
-  stray_none h =
-      let s : first_stray m (drop i x) ≡ 0 = ap (first_stray m) (drop_all i x h) in
-      omega arith
-
--- THE RULES, ONE BY ONE
-
-module _ (m : ℕ) (x : List ℕ) (k : ℕ) where
-  pub due_code : length x ≤ 4096 → first_stray m x < length x → due_sized m x k ≡ Some (Code (first_stray m x))
-  due_code a b = cond-false _ _ _ (le-ltb 4096 (length x) a) ∙ cond-true _ _ _ (lt-ltb (first_stray m x) (length x) b)
-
-  pub due_tray : length x ≤ 4096 → length x ≤ first_stray m x → k < width m * length x → due_sized m x k ≡ Some (Tray k)
-  due_tray a b e =
-      cond-false _ _ _ (le-ltb 4096 (length x) a) ∙ cond-false _ _ _ (le-ltb (first_stray m x) (length x) b) ∙ cond-true _ _ _ (lt-ltb k (width m * length x) e)
-
-  pub due_none : length x ≤ 4096 → length x ≤ first_stray m x → width m * length x ≤ k → due_sized m x k ≡ None
-  due_none a b e =
-      cond-false _ _ _ (le-ltb 4096 (length x) a) ∙ cond-false _ _ _ (le-ltb (first_stray m x) (length x) b) ∙ cond-false _ _ _ (le-ltb k (width m * length x) e)
-
-  pub due_small : m < 2 → due m x k ≡ Some (Size m)
-  due_small l = cond-true _ _ _ (lt-ltb m 2 l)
-
-  pub due_large : 2 ≤ m → 16 < m → due m x k ≡ Some (Size m)
-  due_large h l = cond-false _ _ _ (le-ltb m 2 h) ∙ cond-true _ _ _ (lt-ltb 16 m l)
-
-  pub due_by_size : Sized m → due m x k ≡ due_sized m x k
-  due_by_size h = cond-false _ _ _ (le-ltb m 2 h.0) ∙ cond-false _ _ _ (le-ltb 16 m h.1)
+    at : (o : Option ℕ) → MatchOption o (AllWithin (λ c. c < m) x 0 (length x)) (λ i. (i < length x) × HoldsAt (λ c. m ≤ c) x i × AllWithin (λ c. c < m) x 0 i) → first_stray m x ≡ unwrap_or o (length x) → MatchOption o (first_stray m x ≡ length x) (λ i. (i < length x) × (first_stray m x ≡ i))
+    at (Some i) h e = (h.0, e)
+    at None h e = e
 
 -- no stray code is to have every code below the size
 pub none_stray : (m : ℕ) (x : List ℕ) → Codes m x → length x ≤ first_stray m x
@@ -70,21 +49,18 @@ pub record Sound (m : ℕ) (x : List ℕ) (k : ℕ) : Type 0 where
   pub recording : Recording m x
   pub room : width m * length x ≤ k
 
-some≢none : (o : Option ExtractorFault) (d : ExtractorFault) → o ≡ Some d → o ≡ None → ⊥
-some≢none o d p q = let z : ◌≡◌ {A = ℕ} 0 1 = cc in omega arith
-
 pub sound : (m : ℕ) (x : List ℕ) (k : ℕ) → due m x k ≡ None → Sound m x k
 sound m x k e =
-    let least : 2 ≤ m = ⊎_elim (λ l. absurd (some≢none _ _ (due_small m x k l) e)) (λ l. l) (cases_lt m 2) in
-    let most : m ≤ 16 = ⊎_elim (λ l. absurd (some≢none _ _ (due_large m x k least l) e)) (λ l. l) (cases_lt 16 m) in
-    let e' : due_sized m x k ≡ None = sym (due_by_size m x k (least, most)) ∙ e in
-    let few : length x ≤ 4096 = ⊎_elim (λ l. absurd (some≢none _ _ (cond-true _ _ _ (lt-ltb 4096 (length x) l)) e')) (λ l. l) (cases_lt 4096 (length x)) in
-    let good : length x ≤ first_stray m x = ⊎_elim (λ l. absurd (some≢none _ _ (due_code m x k few l) e')) (λ l. l) (cases_lt (first_stray m x) (length x)) in
-    let wide : width m * length x ≤ k = ⊎_elim (λ l. absurd (some≢none _ _ (due_tray m x k few good l) e')) (λ l. l) (cases_lt k (width m * length x)) in
-    record { sized = (least, most); recording = (stray_none_codes m x good, few); room = wide }
+    let sized : Sized m = (grind (arith, nat_tests), grind (arith, nat_tests)) in
+    let few : length x ≤ 4096 = grind (arith, nat_tests) in
+    let good : length x ≤ first_stray m x = grind (arith, nat_tests) in
+    let wide : width m * length x ≤ k = grind (arith, nat_tests) in
+    record { sized = sized; recording = (stray_none_codes m x good, few); room = wide }
 
 pub unrefused : (m : ℕ) (x : List ℕ) (k : ℕ) → Sized m → Recording m x → width m * length x ≤ k → due m x k ≡ None
-unrefused m x k sized rec room = due_by_size m x k sized ∙ due_none m x k rec.1 (none_stray m x rec.0) room
+unrefused m x k sized rec room =
+    let good : length x ≤ first_stray m x = none_stray m x rec.0 in
+    grind (arith, nat_tests)
 
 -- where no fault is due, only memory can be wanting
 pub memory_only : (o : Option ExtractorFault) (e : ExtractorFault) → o ≡ None → RefusedAs o e → e ≡ Memory

@@ -5,6 +5,7 @@
 --   Written       bits at the front of a tray, the rest as it was
 --   Extracted     what a call leaves
 --   Filled        bits at the front of scratch memory, or want of memory, after which the scratch is given up unread
+--   Fills         what leaves scratch memory of n bytes so, whatever stands there before
 --   Judged        the answer of what judges by a rule: the fault that is due, and no other
 use Rattle.std.specs.Prelude.{◌≡◌, ℕ, suc, ◌*◌, Bool, cond, List, [], ◌∷◌, ◌++◌, length, drop, Some, None, Ok, Err, Option, Result, nat_lt}
 use Rattle.classes.specs.Recordings.{width}
@@ -42,6 +43,10 @@ Extracted f m x tray (Err e) tray' = RefusedAs (due m x (length tray)) e × (tra
 abbrev pub Filled : List Bool → List ℕ → Result ℕ ExtractorFault → List ℕ → Type 0
 Filled s out (Ok n) out' = Written s out n out'
 Filled s out (Err e) out' = e ≡ Memory
+
+-- what fills n bytes of scratch, whatever stands there, with the bits s
+abbrev pub Fills : ℕ → List Bool → (List ℕ → Result ℕ ExtractorFault → List ℕ → Type 0) → Type 0
+Fills n s Left = (out : List ℕ) (r : Result ℕ ExtractorFault) (out' : List ℕ) → length out ≡ n → Left out r out' → Filled s out r out'
 
 abbrev pub Judged : {X F : Type 0} → Option F → Result X F → Type 0
 Judged d (Ok x) = d ≡ None

@@ -1,16 +1,9 @@
 -- The table of an extractor's refusals: the number, the layer and the place of each case.
---   Refusal      what every fault shows
 --   refusal_of   the table
-use Rattle.std.specs.Prelude.{ℕ}
-use Rattle.extractors.specs.declared.fault.Layer.{Layer}
+use Rattle.extractors.specs.declared.fault.Refusal.{Refusal}
 use Rattle.extractors.specs.declared.fault.Layer.TheVariants.{Extractor}
 use Rattle.extractors.specs.declared.fault.ExtractorFault.{ExtractorFault}
 use Rattle.extractors.specs.declared.fault.ExtractorFault.TheVariants.{Size, Length, Code, Tray, Parameter, Memory}
-
-pub record Refusal : Type 0 where
-  pub number : ℕ
-  pub layer : Layer
-  pub place : ℕ
 
 -- want of memory has the number 0 and the place 0
 abbrev pub refusal_of : ExtractorFault → Refusal

@@ -5,3 +5,4 @@ pub mod Piles
 pub mod Calls
 pub mod PairsRule
 pub mod PairsEven
+pub mod Rows

@@ -1,6 +1,7 @@
-//! Why a call is refused, and the three figures that every fault shows: number, layer and place.
+//! Why a call is refused, and what every fault shows: number, layer and place.
 ghost use Rattle.std.specs.Prelude.{◌≡◌};
 ghost use Rattle.extractors.specs.Faults.{refusal_of};
+ghost use Rattle.extractors.specs.declared.fault.Refusal.{Refusal};
 ghost use Rattle.extractors.specs.declared.fault.ExtractorFault.TheVariants.{Memory};
 
 use std::alloc::{AllocError, AllocFailed};
@@ -11,6 +12,47 @@ pub enum Layer {
     File,
     Extractor,
     Well,
+}
+
+/// What every fault shows.
+#[derive(Clone, Copy, PartialEq, Eq, Debug)]
+pub struct Refusal {
+    /// The number under which the refusal is documented; 0 stands for want of memory.
+    pub number: u8,
+    /// The layer that refuses.
+    pub layer: Layer,
+    /// The place: a size, a length, an index or the like, as the case of the fault says.
+    pub place: usize,
+}
+
+/// Why a call is refused, in any layer: each case shows one refusal.
+pub trait Fault {
+    ghost shows: { Self → Refusal };
+
+    /// The number, the layer and the place of the refusal.
+    fn refusal(&self) -> Refusal
+        ensures { result ≡ shows self.now };
+
+    /// The number under which the refusal is documented; 0 stands for want of memory.
+    fn number(&self) -> u8
+        ensures { result ≡ (shows self.now).number }
+    {
+        self.refusal().number
+    }
+
+    /// The layer that refuses.
+    fn layer(&self) -> Layer
+        ensures { result ≡ (shows self.now).layer }
+    {
+        self.refusal().layer
+    }
+
+    /// The place of the fault: a size, a length, an index or the like, as its case says.
+    fn place(&self) -> usize
+        ensures { result ≡ (shows self.now).place }
+    {
+        self.refusal().place
+    }
 }
 
 /// Why an extractor refuses a call; each case holds its place.
@@ -30,43 +72,27 @@ pub enum ExtractorFault {
     Memory,
 }
 
-impl ExtractorFault {
-    /// The number under which the refusal is documented; 0 stands for want of memory.
-    pub fn number(&self) -> u8
-        ensures { result ≡ (refusal_of self.now).number }
-    {
-        match self {
-            ExtractorFault::Size(_) => 1,
-            ExtractorFault::Length(_) => 2,
-            ExtractorFault::Code(_) => 3,
-            ExtractorFault::Tray(_) => 4,
-            ExtractorFault::Parameter(_) => 5,
-            ExtractorFault::Memory => 0,
-        }
-    }
+impl Fault for ExtractorFault {
+    ghost shows = { refusal_of };
 
-    /// The layer that refuses.
-    pub fn layer(&self) -> Layer
-        ensures { result ≡ (refusal_of self.now).layer }
-    {
-        Layer::Extractor
-    }
-
-    /// The place of the fault: a size, a length or an index, as its case says.
-    pub fn place(&self) -> usize
-        ensures { result ≡ (refusal_of self.now).place }
-    {
-        match *self {
-            ExtractorFault::Size(size) => size as usize,
-            ExtractorFault::Length(n) => n,
-            ExtractorFault::Code(i) => i,
-            ExtractorFault::Tray(room) => room,
-            ExtractorFault::Parameter(n) => n,
-            ExtractorFault::Memory => 0,
+    fn refusal(&self) -> Refusal {
+        let (number, place) = match *self {
+            ExtractorFault::Size(size) => (1, usize::from(size)),
+            ExtractorFault::Length(n) => (2, n),
+            ExtractorFault::Code(i) => (3, i),
+            ExtractorFault::Tray(room) => (4, room),
+            ExtractorFault::Parameter(n) => (5, n),
+            ExtractorFault::Memory => (0, 0),
+        };
+        Refusal {
+            number,
+            layer: Layer::Extractor,
+            place,
         }
     }
 }
 
+// The conversions are written by hand, since a derived one would not say what it gives.
 impl From<AllocError> for ExtractorFault {
     ghost from_gives = { λ _ r. r ≡ Memory };
 

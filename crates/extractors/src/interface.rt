@@ -7,6 +7,7 @@ ghost use Rattle.extractors.specs.Piles.{Lawful, Pile, bits};
 use crate::fault::ExtractorFault;
 use std::alloc::Global;
 
+// The tray and the yield are two values by a rule of the project: the tray is the caller's, and keeps its length.
 /// One function from recordings of size 2 to bit strings, even on every count class.
 pub trait CoinExtractor {
     ghost gives: { Self → List ℕ → List Bool };

@@ -2,7 +2,7 @@
 ghost use Rattle.std.specs.Prelude.{◌≡◌, ℕ, ◌-◌, ◌*◌, ◌^◌, ◌≤◌, min, Bool, List, length};
 ghost use Rattle.classes.specs.Evenness.{Even};
 ghost use Rattle.classes.specs.Recordings.{LeastWidth, Recording, Sized, width as width_of};
-ghost use Rattle.extractors.specs.Calls.{Judged, due, first_stray};
+ghost use Rattle.extractors.specs.Calls.{Judged, due};
 
 use crate::fault::ExtractorFault;
 
@@ -19,22 +19,11 @@ pub fn width(size: u8) -> usize
     ensures least { Sized size → LeastWidth size result }
     ensures most { result ≤ 4 }
 {
-    tabled_width(size)
-}
-
-/// The width, by the powers of two up to 16.
-fn tabled_width(size: u8) -> usize
-    ensures value { result ≡ width_of size }
-    ensures most { result ≤ 4 }
-{
-    if size <= 2 {
-        1
-    } else if size <= 4 {
-        2
-    } else if size <= 8 {
-        3
-    } else {
-        4
+    match size {
+        0..=2 => 1,
+        3..=4 => 2,
+        5..=8 => 3,
+        _ => 4,
     }
 }
 
@@ -46,31 +35,18 @@ pub fn room(size: u8, n: usize) -> usize
     width(size).saturating_mul(n)
 }
 
-/// The index of the first code not below the size, or the length.
-fn stray(size: u8, recording: &[u8]) -> usize
-    ensures { result ≡ first_stray size recording.now }
-{
-    for (i, code) in recording.iter().enumerate() {
-        if *code >= size {
-            return i;
-        }
-    }
-    recording.len()
-}
-
 /// The refusal that a size, a recording and a tray of `room` bytes call for, if any.
 pub fn judge(size: u8, recording: &[u8], room: usize) -> Result<(), ExtractorFault>
     ensures { Judged (due size recording.now room) result }
 {
-    if size < LEAST_SIZE || size > GREATEST_SIZE {
+    if !(LEAST_SIZE..=GREATEST_SIZE).contains(&size) {
         return Err(ExtractorFault::Size(size));
     }
     let n = recording.len();
     if n > MOST_CODES {
         return Err(ExtractorFault::Length(n));
     }
-    let first = stray(size, recording);
-    if first < n {
+    if let Some(first) = recording.iter().position(|code| *code >= size) {
         return Err(ExtractorFault::Code(first));
     }
     if room < width(size) * n {

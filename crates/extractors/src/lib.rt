@@ -6,5 +6,7 @@ pub mod interface;
 pub mod judge;
 pub mod no_bits;
 pub mod pairs;
+pub mod rows;
+pub mod scratch;
 #[cfg(test)]
 mod tests;

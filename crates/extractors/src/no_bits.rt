@@ -1,4 +1,4 @@
-//! The coin extractor that gives no bits: the ground of a Peres layer that keeps to pairs.
+//! The coin extractor that gives no bits: what a Peres layer that keeps to pairs stands on.
 ghost use Rattle.std.specs.Prelude.{[]};
 ghost use Rattle.extractors.specs.PairsEven.{no_bits_even};
 

@@ -1,5 +1,5 @@
 //! The pairs extractor, for every size.
-ghost use Rattle.std.specs.Prelude.{◌≡◌, ◌≤◌, length};
+ghost use Rattle.std.specs.Prelude.{◌≤◌, length};
 ghost use Rattle.extractors.specs.Calls.{Written};
 ghost use Rattle.extractors.specs.PairsRule.{pairs};
 ghost use Rattle.extractors.specs.Piles.Pile.{bare};
@@ -19,18 +19,15 @@ fn write_pairs(recording: &[u8], tray: &mut [u8]) -> usize
     requires { length recording.now ≤ length tray.old }
     ensures { Written (pairs recording.now) tray.old result tray.new }
 {
-    let mut i = 0;
-    let mut k = 0;
-    while recording.len() - i >= 2 {
-        let a = recording[i];
-        let b = recording[i + 1];
+    let (pairs, _) = recording.as_chunks::<2>();
+    let mut given = 0;
+    for [a, b] in pairs {
         if a != b {
-            tray[k] = if b < a { 1 } else { 0 };
-            k += 1;
+            tray[given] = u8::from(b < a);
+            given += 1;
         }
-        i += 2;
     }
-    k
+    given
 }
 
 impl SymbolExtractor for Pairs {

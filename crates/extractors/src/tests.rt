@@ -1,21 +1,16 @@
 //! The plain extractors on small recordings, and each refusal with its place.
-use crate::fault::{ExtractorFault, Layer};
+use crate::fault::{ExtractorFault, Fault, Layer};
 use crate::interface::{CoinExtractor, SymbolExtractor};
 use crate::judge::{judge, room};
 use crate::no_bits::NoBits;
 use crate::pairs::Pairs;
+use crate::scratch::extract_by;
 use std::test::Fail;
 
 #[test]
 fn pairs_of_coins(rt: HostRuntime) -> Result<(), Fail> {
     let mut tray = [9; 8];
-    let yielded = SymbolExtractor::extract(
-        &Pairs,
-        rt.alloc(),
-        2,
-        &[0, 1, 1, 0, 0, 0, 1],
-        &mut tray,
-    )?;
+    let yielded = Pairs.extract(rt.alloc(), 2, &[0, 1, 1, 0, 0, 0, 1], &mut tray)?;
     assert_eq!(rt; yielded, 2);
     assert_eq!(rt; tray, [0, 1, 9, 9, 9, 9, 9, 9]);
     Ok(())
@@ -24,7 +19,7 @@ fn pairs_of_coins(rt: HostRuntime) -> Result<(), Fail> {
 #[test]
 fn no_bits_of_coins(rt: HostRuntime) -> Result<(), Fail> {
     let mut tray = [9; 3];
-    let yielded = CoinExtractor::extract(&NoBits, rt.alloc(), &[0, 1, 1], &mut tray)?;
+    let yielded = NoBits.extract(rt.alloc(), &[0, 1, 1], &mut tray)?;
     assert_eq!(rt; yielded, 0);
     assert_eq!(rt; tray, [9, 9, 9]);
     Ok(())
@@ -46,4 +41,16 @@ fn figures_of_a_fault(rt: HostRuntime) {
     assert_eq!(rt; fault.number(), 3);
     assert_eq!(rt; fault.layer(), Layer::Extractor);
     assert_eq!(rt; fault.place(), 5);
+}
+
+#[test]
+fn filled_by_way_of_scratch(rt: HostRuntime) -> Result<(), Fail> {
+    let mut tray = [9; 3];
+    let yielded = extract_by(rt.alloc(), 2, &[0, 1, 1], &mut tray, |scratch| {
+        scratch[0] = 1;
+        Ok(1)
+    })?;
+    assert_eq!(rt; yielded, 1);
+    assert_eq!(rt; tray, [1, 9, 9]);
+    Ok(())
 }

@@ -1,7 +1,7 @@
 -- Lemmas on the contents of a file and on the rules by which it is judged.
-use Rattle.std.proofs.Common.{◌≡◌, ℕ, zero, suc, ◌+◌, ◌-◌, ◌<◌, ◌≤◌, true, false, ◌&&◌, leb, ◌⊎◌, List, length, get_or, take, drop, is_some, IfOk, Some, None, Ok, Err, Option, Result, sym, refl, ap, ◌∙◌, inl, inr, add-one, arith}
+use Rattle.std.proofs.Common.{◌≡◌, ℕ, zero, suc, ◌+◌, ◌<◌, ◌≤◌, true, false, ◌&&◌, leb, ◌⊎◌, List, length, drop, is_some, IfOk, Some, None, Ok, Err, Option, Result, sym, refl, ap, ◌∙◌, inl, inr, arith}
 use Rattle.std.specs.Option.{option_map}
-use Rattle.std.proofs.lemmas.List.{take_rest, get_or-drop, length-take}
+use Rattle.std.proofs.lemmas.List.{length-take}
 use Rattle.std.proofs.lemmas.Bool.{leb-true, eqb-true, le-leb, lt-leb, eq-eqb, and_parts, cases_lt}
 use Rattle.noise_file.specs.declared.entry.Entry.{Entry}
 use Rattle.noise_file.specs.declared.kind.Symbols.{Symbols}
@@ -16,15 +16,7 @@ use Rattle.noise_file.specs.Rules.{head_due, line_due, contents_due, end_due, bo
 use Rattle.noise_file.specs.Opened.{Legible, Accepted}
 use Rattle.extractors.specs.Calls.{Judged}
 use Rattle.noise_file.specs.Entries.{symbols_in, body_in, Holds}
-use Rattle.noise_file.proofs.Readings.{stray_below}
 use Rattle.noise_file.proofs.Firsts.{silent, held, passed, stopped, over_silent, over_first, over_none}
-
--- a byte of what follows place m
-pub byte_after : (bs : List ℕ) (m k : ℕ) → get_or (take (length bs - m) (drop m bs)) k 0 ≡ get_or bs (m + k) 0
-byte_after bs m k = ap (λ xs. get_or xs k 0) (take_rest bs m) ∙ get_or-drop m bs k 0
-
-pub body_at_more : (bs : List ℕ) (i : ℕ) → body_at bs (i + 1) ≡ body_at bs i + length_of bs i
-body_at_more bs i = rw add-one
 
 pub body_at_rises : (bs : List ℕ) (i n : ℕ) → i ≤ n → body_at bs i ≤ body_at bs n
 body_at_rises bs i zero l = let e : i ≡ 0 = omega arith in rw e (omega arith)
@@ -134,12 +126,22 @@ module _ (bs : List ℕ) where
   unfolding due
   due_at_letters h c n = passed (head_due bs) _ h ∙ (passed (contents_due bs) _ c ∙ passed (end_due bs) (letters_due bs) n)
 
-  pub open_accepted : is_some (due bs) ≡ false → Accepted bs
-  open_accepted h = accepted (none (due bs) h)
+  -- an opened file: no refusal is due, so it is an accepted one, whose contents are in order and whose bodies end with it
+  none_open : is_some (due bs) ≡ false → due bs ≡ None
+  none_open h = none (due bs) h
     where
       none : (o : Option FileFault) → is_some o ≡ false → o ≡ None
       none None e = refl
       none (Some x) e = cc
+
+  pub open_accepted : is_some (due bs) ≡ false → Accepted bs
+  open_accepted h = accepted (none_open h)
+
+  pub open_bodies : is_some (due bs) ≡ false → (contents_due bs ≡ None) × (end_due bs ≡ None)
+  unfolding due
+  open_bodies h =
+      let b = silent (contents_due bs) _ (silent (head_due bs) _ (none_open h)).1 in
+      (b.0, (silent (end_due bs) (letters_due bs) b.1).0)
 
   -- the whole judgement is that of the letters, where all before it is silent
   pub judged : {X : Type 0} (r : Result X FileFault) → head_due bs ≡ None → contents_due bs ≡ None → end_due bs ≡ None → Judged (letters_due bs) r → Judged (due bs) r × IfOk r (λ _. Accepted bs)
@@ -149,12 +151,6 @@ module _ (bs : List ℕ) where
   -- the first stray letter of an entry is the refusal that is due to its body
   pub stray_due : (i : ℕ) (e : Entry) (o : Option ℕ) → Holds bs i e → o ≡ stray (code_in (symbols_in e)) (body_in e).letters.now → body_due bs i ≡ option_map (λ k. Letter ((body_in e).at + k)) o
   stray_due i e o h s = body_due_is i (body_in e).at (symbols_in e) (body_in e).letters.now o h.kind h.place h.letters s
-
-  pub stray_within : (i : ℕ) (e : Entry) (k : ℕ) → Holds bs i e → body_at bs i + length_of bs i ≤ length bs → Some k ≡ stray (code_in (symbols_in e)) (body_in e).letters.now → (body_in e).at + k < length bs
-  stray_within i e k h w s =
-      let l : k < length (body_in e).letters.now = stray_below (code_in (symbols_in e)) (body_in e).letters.now k s in
-      let same : length (body_in e).letters.now ≡ length (body bs i) = ap length h.letters in
-      omega (arith, h.place, length-take (length_of bs i) (drop (body_at bs i) bs))
 
   -- an entry of an accepted file has letters of its kind alone, and few of them
   pub entry_of_kind : (i : ℕ) (e : Entry) → Accepted bs → i < entries bs → Holds bs i e → stray (code_in (symbols_in e)) (body_in e).letters.now ≡ None

@@ -1,6 +1,10 @@
 -- Lemmas on rules that are judged in order.
-use Rattle.std.proofs.Common.{◌≡◌, ℕ, zero, suc, ◌+◌, ◌<◌, ◌≤◌, Bool, true, false, ◌⊎◌, Some, None, Option, sym, refl, ap, ◌∙◌, inl, inr, add-one, arith}
+use Rattle.std.proofs.Common.{◌≡◌, ℕ, zero, suc, ◌+◌, ◌<◌, ◌≤◌, Bool, true, false, ◌⊎◌, is_some, Some, None, Err, Option, Result, sym, refl, ap, ◌∙◌, inl, inr, add-one, arith}
 use Rattle.std.proofs.lemmas.Bool.{cases_lt}
+use Rattle.std.specs.Option.{ok_or}
+use Rattle.std.specs.Result.{IsErrAnd}
+use Rattle.std.proofs.lemmas.Result.{err_from_is_err_and}
+use Rattle.extractors.specs.Calls.{Judged}
 use Rattle.noise_file.specs.First.{unless, first, first_over}
 
 pub silent : {X : Type 0} (a b : Option X) → first a b ≡ None → (a ≡ None) × (b ≡ None)
@@ -18,6 +22,15 @@ stopped (Some y) b x h = h
 pub held : {X : Type 0} (b : Bool) (x : X) → unless b x ≡ None → b ≡ true
 held true x h = refl
 held false x h = cc
+
+-- where `ok_or` refuses, there was no value, and the refusal is the one that it was given
+pub refused : {X E : Type 0} (o : Option X) (e x : E) (r : Result X E) → r ≡ ok_or o e → r ≡ Err x → (is_some o ≡ false) × (x ≡ e)
+refused None e x r h s = (refl, cc)
+refused (Some y) e x r h s = cc
+
+-- a fault that climbs by `?` is the one that is due
+pub climbs : {X F : Type 0} (d : Option F) (r : Result X F) (e : F) → IsErrAnd r (λ y. y ≡ e) → d ≡ Some e → Judged d r
+climbs d r e h is = let p = err_from_is_err_and r h in rw (p.1, p.2) is
 
 -- one rule more
 pub over_more : {X : Type 0} (f : ℕ → Option X) (n : ℕ) → first_over n f ≡ None → first_over (n + 1) f ≡ f n

@@ -1,6 +1,6 @@
 -- The table of a file's refusals: the number, the layer and the place of each case.
 --   refusal_of   the table
-use Rattle.extractors.specs.Faults.{Refusal}
+use Rattle.extractors.specs.declared.fault.Refusal.{Refusal}
 use Rattle.extractors.specs.declared.fault.Layer.TheVariants.{File}
 use Rattle.noise_file.specs.declared.fault.FileFault.{FileFault}
 use Rattle.noise_file.specs.declared.fault.FileFault.TheVariants.{Cut, Entries, KeyLength, Kind, Tower, Length, End, Letter, Number, Memory}

@@ -2,14 +2,13 @@
 --   size_in      the size of a kind
 --   Listed       the file has an entry of that number
 --   LettersFed   a step of the well: letters are read as codes and these are fed
---   Fed          what feeding letters leaves: such a step, or want of memory to read them
 --   StepOf       the step of the well that feeds entry n
 --   RefusedFeed  a refusal: by the file, with the well as it was, or by the well, in its own step
 --   NumberFed    what feeding entry n leaves
 --   EntryFed     the same, with the entry number added to a fault and nothing else
 --   refusal_of   the table of an entry feed's refusals: those of file and well, passed up whole
 use Rattle.std.specs.Prelude.{◌≡◌, ℕ, ◌-◌, ◌≤◌, ◌⊎◌, List, ℤ, Some, Ok, Err, Option, Result}
-use Rattle.extractors.specs.Faults.{Refusal}
+use Rattle.extractors.specs.declared.fault.Refusal.{Refusal}
 use Rattle.extractors.specs.Piles.{Pile}
 use Rattle.well.specs.Faults as well
 use Rattle.well.specs.State.{State}
@@ -40,14 +39,6 @@ pub record LettersFed (m : ℕ) (f : ℕ → Option ℕ) (p : Pile) (letters : L
   pub codes : List ℕ
   pub read : ReadAs m f letters codes
   pub step : Step s (feed p m codes k) o s'
-
-abbrev pub RefusedLetters : ℕ → (ℕ → Option ℕ) → Pile → List ℕ → ℕ → State → FeedFault → State → Type 0
-RefusedLetters m f p letters k s (File e) s' = (e ≡ Memory) × (s' ≡ s)
-RefusedLetters m f p letters k s (Well e) s' = LettersFed m f p letters k s (refused e) s'
-
-abbrev pub Fed : ℕ → (ℕ → Option ℕ) → Pile → List ℕ → ℕ → State → Result (ℕ × ℤ) FeedFault → State → Type 0
-Fed m f p letters k s (Ok a) s' = LettersFed m f p letters k s (fed a.0 a.1) s'
-Fed m f p letters k s (Err e) s' = RefusedLetters m f p letters k s e s'
 
 pub record StepOf (bs : List ℕ) (n k : ℕ) (s : State) (o : Outcome) (s' : State) : Type 0 where
   pub listed : Listed bs n

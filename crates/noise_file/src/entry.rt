@@ -1,11 +1,13 @@
 //! An opened entry: its symbols and its part of the file, which it borrows.
-ghost use Rattle.std.specs.Prelude.{◌≡◌, Some};
+ghost use Rattle.std.specs.Prelude.{◌≡◌, Some, Ok, Err};
 ghost use Rattle.noise_file.specs.Letters.{symbols_of, kind_letter, code_in};
-ghost use Rattle.noise_file.specs.Reading.{stray};
+ghost use Rattle.noise_file.specs.Reading.{stray, ReadAs, Misread};
 ghost use Rattle.noise_file.specs.Entries.{symbols_in, body_in};
+ghost use Rattle.noise_file.specs.Feeds.{size_in};
 
-use crate::kind;
-use crate::kind::{Coin, Die, Label, Symbols};
+use crate::fault::FileFault;
+use crate::kind::{self, Coin, Die, Kind, Label, Symbols};
+use std::alloc::Global;
 use towers::tower::Tower;
 
 /// An entry's part of the file.
@@ -19,6 +21,7 @@ pub struct Body<'a> {
     pub letters: &'a [u8],
 }
 
+// An enum whose cases borrow the body is a rule of the project.
 /// An entry of a file, by its kind.
 #[derive(Clone, Copy)]
 pub enum Entry<'a> {
@@ -44,6 +47,7 @@ impl<'a> Entry<'a> {
     }
 
     /// The kind letter of the entry, by which a file names its kind.
+    // A `From<Entry>` for `char` beside this public name would be a second way to the same letter.
     pub fn kind_letter(&self) -> char
         ensures value { result ≡ kind_letter (symbols_in self.now) }
         ensures found { symbols_of result ≡ Some (symbols_in self.now) }
@@ -60,9 +64,30 @@ impl<'a> Entry<'a> {
         ensures { result ≡ body_in self.now }
     {
         match *self {
-            Entry::Coins(body) => body,
-            Entry::Faces(body) => body,
-            Entry::Labels(body) => body,
+            Entry::Coins(body) | Entry::Faces(body) | Entry::Labels(body) => body,
+        }
+    }
+
+    /// The size of the entry's kind.
+    pub(crate) fn size(&self) -> u8
+        ensures { result ≡ size_in (symbols_in self.now) }
+    {
+        match self {
+            Entry::Coins(_) => Coin::SIZE,
+            Entry::Faces(_) => Die::SIZE,
+            Entry::Labels(_) => Label::SIZE,
+        }
+    }
+
+    /// The codes of the entry's letters.
+    // Each question has a match of its own: a kind is a type, and no closure is generic over a type.
+    pub(crate) fn codes(&self, heap: Global) -> Result<Vec<u8>, FileFault>
+        ensures { elim result [ Ok v ↦ ReadAs (size_in (symbols_in self.now)) (code_in (symbols_in self.now)) (body_in self.now).letters.now v.items | Err e ↦ Misread (code_in (symbols_in self.now)) (body_in self.now).letters.now e ] }
+    {
+        match self {
+            Entry::Coins(body) => kind::read_body::<Coin>(heap, body.letters),
+            Entry::Faces(body) => kind::read_body::<Die>(heap, body.letters),
+            Entry::Labels(body) => kind::read_body::<Label>(heap, body.letters),
         }
     }
 

@@ -1,11 +1,11 @@
-//! Why a file or an entry number is refused, and the three figures that every fault shows.
+//! Why a file or an entry number is refused, and what each fault shows.
 ghost use Rattle.std.specs.Prelude.{◌≡◌};
 ghost use Rattle.noise_file.specs.Faults.{refusal_of};
 ghost use Rattle.noise_file.specs.Feeds.{refusal_of as feed_refusal};
 ghost use Rattle.noise_file.specs.declared.fault.FeedFault.TheVariants.{File, Well};
 ghost use Rattle.noise_file.specs.declared.fault.FileFault.TheVariants.{Memory};
 
-use extractors::fault::Layer;
+use extractors::fault::{Fault, Layer, Refusal};
 use std::alloc::{AllocError, AllocFailed};
 use well::fault::WellFault;
 
@@ -26,7 +26,7 @@ pub enum FileFault {
     Length(usize),
     /// The bodies end elsewhere than the file: the smaller of the two ends.
     End(usize),
-    /// A letter is not of its kind: its byte offset.
+    /// A letter is not of its kind: its byte offset, or its index where letters alone are read.
     Letter(usize),
     /// There is no entry of that number: the number.
     Number(usize),
@@ -34,51 +34,31 @@ pub enum FileFault {
     Memory,
 }
 
-impl FileFault {
-    /// The number under which the refusal is documented; 0 stands for want of memory.
-    pub fn number(&self) -> u8
-        ensures { result ≡ (refusal_of self.now).number }
-    {
-        match self {
-            FileFault::Cut(_) => 7,
-            FileFault::Entries => 8,
-            FileFault::KeyLength => 9,
-            FileFault::Kind(_) => 10,
-            FileFault::Tower(_) => 11,
-            FileFault::Length(_) => 12,
-            FileFault::End(_) => 13,
-            FileFault::Letter(_) => 14,
-            FileFault::Number(_) => 15,
-            FileFault::Memory => 0,
-        }
-    }
+impl Fault for FileFault {
+    ghost shows = { refusal_of };
 
-    /// The layer that refuses.
-    pub fn layer(&self) -> Layer
-        ensures { result ≡ (refusal_of self.now).layer }
-    {
-        Layer::File
-    }
-
-    /// The place of the fault: a length, a byte offset or an entry number, as its case says.
-    pub fn place(&self) -> usize
-        ensures { result ≡ (refusal_of self.now).place }
-    {
-        match *self {
-            FileFault::Cut(n) => n,
-            FileFault::Entries => 0,
-            FileFault::KeyLength => 1,
-            FileFault::Kind(at) => at,
-            FileFault::Tower(at) => at,
-            FileFault::Length(at) => at,
-            FileFault::End(at) => at,
-            FileFault::Letter(at) => at,
-            FileFault::Number(n) => n,
-            FileFault::Memory => 0,
+    fn refusal(&self) -> Refusal {
+        let (number, place) = match *self {
+            FileFault::Cut(n) => (7, n),
+            FileFault::Entries => (8, 0),
+            FileFault::KeyLength => (9, 1),
+            FileFault::Kind(at) => (10, at),
+            FileFault::Tower(at) => (11, at),
+            FileFault::Length(at) => (12, at),
+            FileFault::End(at) => (13, at),
+            FileFault::Letter(at) => (14, at),
+            FileFault::Number(n) => (15, n),
+            FileFault::Memory => (0, 0),
+        };
+        Refusal {
+            number,
+            layer: Layer::File,
+            place,
         }
     }
 }
 
+// The conversions are written by hand, since a derived one would not say what it gives.
 impl From<AllocError> for FileFault {
     ghost from_gives = { λ _ r. r ≡ Memory };
 
@@ -104,6 +84,17 @@ pub enum FeedFault {
     Well(WellFault),
 }
 
+impl Fault for FeedFault {
+    ghost shows = { feed_refusal };
+
+    fn refusal(&self) -> Refusal {
+        match self {
+            FeedFault::File(fault) => fault.refusal(),
+            FeedFault::Well(fault) => fault.refusal(),
+        }
+    }
+}
+
 /// A refused entry feed: the fault, passed up whole, and the number of the entry.
 #[derive(Clone, Copy, PartialEq, Eq, Debug)]
 pub struct EntryFault {
@@ -111,35 +102,11 @@ pub struct EntryFault {
     pub fault: FeedFault,
 }
 
-impl EntryFault {
-    /// The number under which the refusal is documented.
-    pub fn number(&self) -> u8
-        ensures { result ≡ (feed_refusal self.now.fault).number }
-    {
-        match self.fault {
-            FeedFault::File(fault) => fault.number(),
-            FeedFault::Well(fault) => fault.number(),
-        }
-    }
+impl Fault for EntryFault {
+    ghost shows = { λ e. feed_refusal e.fault };
 
-    /// The layer that refuses.
-    pub fn layer(&self) -> Layer
-        ensures { result ≡ (feed_refusal self.now.fault).layer }
-    {
-        match self.fault {
-            FeedFault::File(fault) => fault.layer(),
-            FeedFault::Well(fault) => fault.layer(),
-        }
-    }
-
-    /// The place of the fault.
-    pub fn place(&self) -> usize
-        ensures { result ≡ (feed_refusal self.now.fault).place }
-    {
-        match self.fault {
-            FeedFault::File(fault) => fault.place(),
-            FeedFault::Well(fault) => fault.place(),
-        }
+    fn refusal(&self) -> Refusal {
+        self.fault.refusal()
     }
 }
 

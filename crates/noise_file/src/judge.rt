@@ -1,100 +1,102 @@
 //! Judging a file: its head, its contents, its end and its letters, in this order.
-ghost use Rattle.std.specs.Prelude.{ℕ, ◌+◌, ◌<◌, ◌≤◌, length, OnOk};
-ghost use Rattle.noise_file.specs.Contents.{entries, line_at};
+ghost use Rattle.std.specs.Prelude.{◌<◌, length, OnOk};
+ghost use Rattle.noise_file.specs.Contents.{entries};
 ghost use Rattle.noise_file.specs.Rules.{head_due, line_due, contents_due, end_due, body_due, letters_due, due};
-ghost use Rattle.noise_file.specs.Opened.{Legible, Accepted};
+ghost use Rattle.noise_file.specs.Opened.{Accepted};
 ghost use Rattle.extractors.specs.Calls.{Judged};
 
-use crate::contents::{begin_of, entry_at, read_line};
+use crate::bodies::Bodies;
+use crate::contents::{Contents, line_at};
 use crate::fault::FileFault;
 use crate::kind::Symbols;
 use towers::tower::Tower;
 
-const MAX_ENTRIES: u8 = 15;
+/// The most entries of a file.
+const MOST_ENTRIES: u8 = 15;
+// The file's limits are bytes of the file, and not the well's or the extractors' numbers of other types.
+/// The greatest key length that a file asks for.
+const MOST_KEY_LENGTH: u8 = 32;
+/// The most letters of an entry.
+const MOST_LETTERS: u16 = 4096;
 
-const MAX_KEY_LENGTH: u8 = 32;
-
-const MAX_LENGTH: usize = 4096;
-
+/// Judges the head: the number of entries and the key length.
 fn judge_head(bytes: &[u8]) -> Result<(), FileFault>
     ensures { Judged (head_due bytes.now) result }
 {
     let [entries, key_length, ..] = bytes else {
         return Err(FileFault::Cut(bytes.len()));
     };
-    if *entries < 1 || *entries > MAX_ENTRIES {
+    if !(1..=MOST_ENTRIES).contains(entries) {
         return Err(FileFault::Entries);
     }
-    if *key_length < 1 || *key_length > MAX_KEY_LENGTH {
+    if !(1..=MOST_KEY_LENGTH).contains(key_length) {
         return Err(FileFault::KeyLength);
     }
     Ok(())
 }
 
-fn judge_line(bytes: &[u8], i: usize) -> Result<(), FileFault>
-    requires { line_at i + 4 ≤ length bytes.now }
-    ensures { Judged (line_due bytes.now i) result }
-{
-    let at = 2 + 4 * i;
-    let line = read_line(bytes, i);
-    if Symbols::of(line.kind).is_none() {
-        return Err(FileFault::Kind(at));
+impl Contents<'_> {
+    /// Judges the four bytes of entry `i`, from 0.
+    fn judge_line(&self, i: usize) -> Result<(), FileFault>
+        requires { i < entries self.now.bytes.now }
+        ensures { Judged (line_due self.now.bytes.now i) result }
+    {
+        let at = line_at(i);
+        let line = self.line(i);
+        Symbols::of(line.kind).ok_or(FileFault::Kind(at))?;
+        Tower::of(line.tower).ok_or(FileFault::Tower(at + 1))?;
+        if line.length > MOST_LETTERS {
+            return Err(FileFault::Length(at + 2));
+        }
+        Ok(())
     }
-    if Tower::of(line.tower).is_none() {
-        return Err(FileFault::Tower(at + 1));
-    }
-    if line.length > MAX_LENGTH {
-        return Err(FileFault::Length(at + 2));
-    }
-    Ok(())
-}
 
-fn judge_contents(bytes: &[u8]) -> Result<(), FileFault>
-    requires { 2 ≤ length bytes.now }
-    ensures { Judged (contents_due bytes.now) result }
-{
-    let entries = bytes[0] as usize;
-    if bytes.len() < 2 + 4 * entries {
-        return Err(FileFault::Cut(bytes.len()));
+    /// Judges the four bytes of each entry, in order.
+    fn judge_lines(&self) -> Result<(), FileFault>
+        ensures { Judged (contents_due self.now.bytes.now) result }
+    {
+        // A `for` with `?` is plainer than `try_for_each` with a closure.
+        for i in 0..self.entries() {
+            self.judge_line(i)?;
+        }
+        Ok(())
     }
-    for i in 0..entries {
-        judge_line(bytes, i)?;
-    }
-    Ok(())
-}
 
-fn judge_end(bytes: &[u8]) -> Result<(), FileFault>
-    requires { line_at (entries bytes.now) ≤ length bytes.now }
-    ensures { Judged (end_due bytes.now) result }
-{
-    let end = begin_of(bytes, bytes[0] as usize);
-    if end != bytes.len() {
-        return Err(FileFault::End(end.min(bytes.len())));
-    }
-    Ok(())
-}
-
-fn judge_body(bytes: &[u8], i: usize) -> Result<(), FileFault>
-    requires legible { Legible bytes.now i }
-    requires contents { line_at (entries bytes.now) ≤ length bytes.now }
-    ensures { Judged (body_due bytes.now i) result }
-{
-    let entry = entry_at(bytes, i);
-    match entry.first_stray() {
-        Some(k) => Err(FileFault::Letter(entry.body().at + k)),
-        None => Ok(()),
+    /// Judges whether the bodies end where the file ends.
+    fn judge_end(&self) -> Result<(), FileFault>
+        ensures { Judged (end_due self.now.bytes.now) result }
+    {
+        let end = self.begin_of(self.entries());
+        if end != self.bytes.len() {
+            return Err(FileFault::End(end.min(self.bytes.len())));
+        }
+        Ok(())
     }
 }
 
-fn judge_letters(bytes: &[u8]) -> Result<(), FileFault>
-    requires legible { (i : ℕ) → i < entries bytes.now → Legible bytes.now i }
-    requires contents { line_at (entries bytes.now) ≤ length bytes.now }
-    ensures { Judged (letters_due bytes.now) result }
-{
-    for i in 0..bytes[0] as usize {
-        judge_body(bytes, i)?;
+impl Bodies<'_> {
+    /// Judges the letters of entry `i`, from 0.
+    fn judge_body(&self, i: usize) -> Result<(), FileFault>
+        requires { i < entries self.now.contents.bytes.now }
+        ensures { Judged (body_due self.now.contents.bytes.now i) result }
+    {
+        let entry = self.entry(i);
+        match entry.first_stray() {
+            Some(k) => Err(FileFault::Letter(entry.body().at + k)),
+            None => Ok(()),
+        }
     }
-    Ok(())
+
+    /// Judges the letters of each entry, in order.
+    fn judge_letters(&self) -> Result<(), FileFault>
+        ensures { Judged (letters_due self.now.contents.bytes.now) result }
+    {
+        // A `for` with `?` is plainer than `try_for_each` with a closure.
+        for i in 0..self.contents.entries() {
+            self.judge_body(i)?;
+        }
+        Ok(())
+    }
 }
 
 /// Judges a whole file: the refusal that is due, or that it is acceptable.
@@ -103,7 +105,8 @@ pub(crate) fn judge(bytes: &[u8]) -> Result<(), FileFault>
     ensures accepted { OnOk result (Accepted bytes.now) }
 {
     judge_head(bytes)?;
-    judge_contents(bytes)?;
-    judge_end(bytes)?;
-    judge_letters(bytes)
+    let contents = Contents::of(bytes)?;
+    contents.judge_lines()?;
+    contents.judge_end()?;
+    Bodies { contents }.judge_letters()
 }

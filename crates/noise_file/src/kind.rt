@@ -20,6 +20,7 @@ pub enum Symbols {
 
 impl Symbols {
     /// The symbols of a kind letter.
+    // A TryFrom<char> beside this public name would be a second way to the same answer.
     pub fn of(letter: char) -> Option<Symbols>
         ensures { result ≡ symbols_of letter }
     {
@@ -37,21 +38,24 @@ pub trait Kind {
     /// How many codes there are; they are the numbers below it.
     const SIZE: u8;
 
-    ghost sized: { ℕ };
+    ghost SIZE: { ℕ };
 
     ghost coded: { ℕ → Option ℕ };
 
     /// The size, for code that is written for any kind.
     fn alphabet() -> u8
-        ensures { result ≡ sized };
+        ensures { result ≡ SIZE }
+    {
+        Self::SIZE
+    }
 
     /// The code of a letter of the kind.
     fn code(letter: char) -> Option<u8>
         ensures { result ≡ coded letter };
 
-    ghost bounds: { (2 ≤ sized) × (sized ≤ 16) };
+    ghost bounds: { (2 ≤ SIZE) × (SIZE ≤ 16) };
 
-    ghost below: { (l c : ℕ) → coded l ≡ Some c → c < sized };
+    ghost below: { (l c : ℕ) → coded l ≡ Some c → c < SIZE };
 }
 
 /// Throws of a coin: H and T.
@@ -60,17 +64,13 @@ pub struct Coin;
 impl Kind for Coin {
     const SIZE: u8 = 2;
 
-    ghost sized = { 2 };
+    ghost SIZE = { 2 };
 
     ghost coded = { coin_code };
 
     ghost bounds = { Prim.search rules };
 
     ghost below = { Prim.search rules };
-
-    fn alphabet() -> u8 {
-        Self::SIZE
-    }
 
     fn code(letter: char) -> Option<u8> {
         match letter {
@@ -87,17 +87,13 @@ pub struct Die;
 impl Kind for Die {
     const SIZE: u8 = 6;
 
-    ghost sized = { 6 };
+    ghost SIZE = { 6 };
 
     ghost coded = { face_code };
 
     ghost bounds = { Prim.search rules };
 
     ghost below = { Prim.search rules };
-
-    fn alphabet() -> u8 {
-        Self::SIZE
-    }
 
     fn code(letter: char) -> Option<u8> {
         match letter {
@@ -118,17 +114,13 @@ pub struct Label;
 impl Kind for Label {
     const SIZE: u8 = 16;
 
-    ghost sized = { 16 };
+    ghost SIZE = { 16 };
 
     ghost coded = { label_code };
 
     ghost bounds = { Prim.search rules };
 
     ghost below = { Prim.search rules };
-
-    fn alphabet() -> u8 {
-        Self::SIZE
-    }
 
     fn code(letter: char) -> Option<u8> {
         match letter {
@@ -155,14 +147,12 @@ impl Kind for Label {
 
 /// Reads letters of any kind: their codes in order, or the index of the first letter that is not of the kind.
 pub fn read_body<K: Kind>(heap: Global, letters: &[u8]) -> Result<Vec<u8>, FileFault>
-    ensures { elim result [ Ok v ↦ ReadAs K.Kind.sized K.Kind.coded letters.now v.items | Err e ↦ Misread K.Kind.coded letters.now e ] }
+    ensures { elim result [ Ok v ↦ ReadAs K.Kind.SIZE K.Kind.coded letters.now v.items | Err e ↦ Misread K.Kind.coded letters.now e ] }
 {
     let mut codes = Vec::new(heap);
     for (i, letter) in letters.iter().enumerate() {
-        match K::code(*letter as char) {
-            Some(code) => codes.push(code)?,
-            None => return Err(FileFault::Letter(i)),
-        }
+        let code = K::code(char::from(*letter)).ok_or(FileFault::Letter(i))?;
+        codes.push(code)?;
     }
     Ok(codes)
 }
@@ -171,10 +161,7 @@ pub fn read_body<K: Kind>(heap: Global, letters: &[u8]) -> Result<Vec<u8>, FileF
 pub fn first_stray<K: Kind>(letters: &[u8]) -> Option<usize>
     ensures { result ≡ stray K.Kind.coded letters.now }
 {
-    for (i, letter) in letters.iter().enumerate() {
-        if K::code(*letter as char).is_none() {
-            return Some(i);
-        }
-    }
-    None
+    letters
+        .iter()
+        .position(|letter| K::code(char::from(*letter)).is_none())
 }

@@ -1,6 +1,7 @@
 //! Noise files: their contents, kinds and entries, and feeding an entry to a well.
 #![tactic(auto)]
 
+mod bodies;
 mod contents;
 pub mod entry;
 pub mod fault;

@@ -2,6 +2,7 @@
 use crate::fault::{EntryFault, FileFault};
 use crate::file::NoiseFile;
 use crate::kind::{Die, Label, read_body};
+use extractors::fault::Fault;
 use std::alloc::{AllocError, Global};
 use std::test::Fail;
 use well::store::Well;
@@ -9,10 +10,8 @@ use well::store::Well;
 const EXAMPLE: &[u8] = b"\x03\x01Cv\x00\x07Lv\x00\x0bCv\x00\x08HTTHHHTacababbacabHTTTHHTH";
 
 fn refusal(heap: Global, bytes: &[u8]) -> Result<Option<(u8, usize)>, AllocError> {
-    match NoiseFile::open(Vec::from_slice(heap, bytes)?) {
-        Ok(_) => Ok(None),
-        Err(fault) => Ok(Some((fault.number(), fault.place()))),
-    }
+    let opened = NoiseFile::open(Vec::from_slice(heap, bytes)?);
+    Ok(opened.err().map(|fault| (fault.number(), fault.place())))
 }
 
 #[test]
@@ -59,13 +58,9 @@ fn opens_the_example(rt: HostRuntime) -> Result<(), Fail> {
 
 #[test]
 fn reads_only_letters_of_the_kind(rt: HostRuntime) -> Result<(), Fail> {
-    match read_body::<Die>(rt.alloc(), b"1627") {
-        Ok(_) => Err(Fail::new("7 is no face")),
-        Err(fault) => {
-            assert_eq!(rt; fault, FileFault::Letter(3));
-            Ok(())
-        },
-    }
+    let read = read_body::<Die>(rt.alloc(), b"1627");
+    assert_eq!(rt; read.err(), Some(FileFault::Letter(3)), "7 is no face");
+    Ok(())
 }
 
 #[test]
@@ -99,8 +94,7 @@ fn a_refused_feed_names_its_entry(rt: HostRuntime) -> Result<(), Fail> {
 
 // The entry, the number and the place of a refusal.
 fn figures(answer: Result<(u32, i32), EntryFault>) -> Option<(usize, u8, usize)> {
-    match answer {
-        Ok(_) => None,
-        Err(fault) => Some((fault.entry, fault.number(), fault.place())),
-    }
+    answer
+        .err()
+        .map(|fault| (fault.entry, fault.number(), fault.place()))
 }

@@ -1,5 +1,5 @@
 -- The scratch of a Peres layer: its parts have room beside each other, and what is written to them is what the layer gives. Assumes nothing.
-use Rattle.std.proofs.Common.{◌≡◌, ℕ, ◌+◌, ◌-◌, ◌≤◌, Bool, List, ◌++◌, length, take, drop, Ok, Err, vec_items, vec_len, Result, sym, refl, ap, ◌∙◌, subst, append_assoc, arith}
+use Rattle.std.proofs.Common.{◌≡◌, ℕ, ◌+◌, ◌-◌, ◌≤◌, Bool, List, ◌++◌, length, take, drop, Ok, Err, vec_items, Result, sym, refl, ap, ◌∙◌, subst, append_assoc, arith}
 use borrow.Rule.Slice.PartMut.{put_mid}
 use Rattle.classes.specs.Recordings.{Recording}
 use Rattle.classes.specs.Evenness.{Even}
@@ -27,27 +27,28 @@ filled_below f x out rec room (Err fault) out' e = memory_only (due 2 x (length 
 -- ONE STEP: the bits of pairs, then a bits of u, then b bits of v
 
 module _ (x : List ℕ) (rec : Recording 2 x) (p : Parts) (out out₁ : List ℕ) (taken : TakenApart x out (Ok p) out₁) where
-  pub u_recorded : Recording 2 (vec_items p.differing)
-  u_recorded = subst (Recording 2) (sym taken.1) (differ_recorded x rec)
+  -- the first list fits behind the bits of pairs
+  pub before_first : (u : List ℕ) → u ≡ vec_items p.differing → Recording 2 u × (p.yielded + length u ≤ length x)
+  before_first u eu =
+      let e : u ≡ differ x = eu ∙ taken.1 in
+      let l = pair_lengths x in
+      let k = taken.0.0 in
+      (subst (Recording 2) (sym e) (differ_recorded x rec), omega (arith, ap length e))
 
-  pub v_recorded : Recording 2 (vec_items p.agreed)
-  v_recorded = subst (Recording 2) (sym taken.2) (common_recorded x rec)
-
-  module _ (d : ℕ) (f : List ℕ → List Bool) (even : Even 2 f) where
-    -- each part fits behind those before it, since it gives no more bits than it has codes
-    pub room_for : (a b : ℕ) → a ≡ length (peres d f (vec_items p.differing)) → b ≡ length (peres d f (vec_items p.agreed))
-        → (p.yielded + vec_len p.differing ≤ length x) × (p.yielded + a + vec_len p.agreed ≤ length x) × (p.yielded + a + b ≤ length x) × (length x ≤ 4096)
-    room_for a b ea eb =
+  module _ (d : ℕ) (f : List ℕ → List Bool) (even : Even 2 f) (u : List ℕ) (eu : u ≡ vec_items p.differing) (a : ℕ) (ea : a ≡ length (peres d f u)) where
+    -- the second list fits behind the bits of the first, which gives no more bits than it has codes
+    pub before_second : (v : List ℕ) → v ≡ vec_items p.agreed → Recording 2 v × (p.yielded + a + length v ≤ length x)
+    before_second v ev =
+        let e : u ≡ differ x = eu ∙ taken.1 in
+        let e' : v ≡ common x = ev ∙ taken.2 in
         let l = pair_lengths x in
-        let lu : vec_len p.differing ≡ length (differ x) = p.differing.ok.0 ∙ ap length taken.1 in
-        let lv : vec_len p.agreed ≡ length (common x) = p.agreed.ok.0 ∙ ap length taken.2 in
-        let eu : length (vec_items p.differing) ≡ length (differ x) = ap length taken.1 in
-        let ev : length (vec_items p.agreed) ≡ length (common x) = ap length taken.2 in
-        let ba = peres_bound d f even (vec_items p.differing) u_recorded in
-        let bb = peres_bound d f even (vec_items p.agreed) v_recorded in
-        let ek = taken.0.0 in
-        let few : length x ≤ 4096 = rec.1 in
-        (omega arith, omega arith, omega arith, few)
+        let k = taken.0.0 in
+        (subst (Recording 2) (sym e') (common_recorded x rec), omega (arith, ap length e, ap length e', peres_bound d f even u (before_first u eu).0))
+
+    pub behind_both : (v : List ℕ) → v ≡ vec_items p.agreed → (b : ℕ) → b ≡ length (peres d f v) → p.yielded + a + b ≤ length x
+    behind_both v ev b eb =
+        let r = before_second v ev in
+        omega (arith, peres_bound d f even v r.0, r.1)
 
   -- the three parts one behind the other are the bits of the depth
   pub filled_step : (d : ℕ) (f : List ℕ → List Bool) → (d ≡ 0 → ⊥) → (u v part₁ part₂ : List ℕ) (a b m n : ℕ) → u ≡ vec_items p.differing → v ≡ vec_items p.agreed

@@ -1,13 +1,12 @@
 -- The two lists of a recording's pairs: their lengths and codes, and how a loop over the recording meets them. Assumes nothing.
-use Rattle.std.specs.Prelude.{◌≡◌, ℕ, zero, suc, ◌+◌, ◌-◌, ◌*◌, ◌<◌, ◌≤◌, Bool, true, false, cond, List, [], ◌∷◌, ◌++◌, length, take, drop, ◌==◌, ◌≢◌, nat_lt, slice_index, slice_index_or, slice_set, refl}
+use Rattle.std.specs.Prelude.{◌≡◌, ℕ, zero, suc, ◌+◌, ◌-◌, ◌*◌, ◌<◌, ◌≤◌, Bool, true, false, cond, not, List, [], ◌∷◌, ◌++◌, length, ◌==◌, ◌≢◌, nat_lt, slice_set, refl}
+use Rattle.std.specs.Int.{from_bool}
 use Rattle.std.proofs.Common.{sym, ap, ◌∙◌, append_assoc, append-nil, arith, eq-eqb, ne_eqb}
-use Rattle.std.proofs.lemmas.List.{length-drop}
 use Rattle.std.proofs.lemmas.Bool.{cond-true, cond-false}
 use Rattle.classes.specs.Recordings.{Codes, Recording}
-use Rattle.extractors.specs.Bits.{byte, bytes}
 use Rattle.extractors.specs.Calls.{Written}
 use Rattle.extractors.specs.PairsRule.{pairs}
-use Rattle.extractors.proofs.Pairing.{two, write_same, write_other, write_all}
+use Rattle.extractors.proofs.Pairing.{Writing, write_same, write_other, write_all}
 use Rattle.peres.specs.PeresRule.{differ, common, peres}
 
 -- LENGTHS AND CODES
@@ -53,61 +52,54 @@ peres_step (suc d) f x h = let e : d ≡ suc d - 1 = omega arith in ap (λ k. pa
 
 -- THE LOOP OVER THE PAIRS
 
-module _ (x : List ℕ) (i : ℕ) (h : i + 2 ≤ length x) where
-  differ_more : differ (drop i x) ≡ cond (slice_index x i == slice_index x (i + 1)) 0 1 ∷ differ (drop (i + 2) x)
-  differ_more = ap differ (two x i h)
-
-  common_same : slice_index_or x i 0 ≡ slice_index x (i + 1) → common (drop i x) ≡ slice_index x (i + 1) ∷ common (drop (i + 2) x)
-  common_same e = ap common (two x i h) ∙ cond-true _ _ _ (eq-eqb (slice_index x i) (slice_index x (i + 1)) e) ∙ ap (λ a. a ∷ common (drop (i + 2) x)) e
-
-  common_other : (slice_index x i ≢ slice_index x (i + 1)) → common (drop i x) ≡ common (drop (i + 2) x)
-  common_other e = ap common (two x i h) ∙ cond-false _ _ _ (ne_eqb (slice_index x i) (slice_index x (i + 1)) e)
-
-no_pairs_left : (y : List ℕ) → length y < 2 → (differ y ≡ []) × (common y ≡ [])
-no_pairs_left [] h = (refl, refl)
-no_pairs_left (a ∷ []) h = (refl, refl)
-no_pairs_left (a ∷ (b ∷ y)) h = absurd (omega arith)
-
 -- a list grows by the element that one turn takes from the rest
-list_more : {X : Type 0} (all done rest rest' done' : List X) (y : X) → all ≡ done ++ rest → rest ≡ y ∷ rest' → done' ≡ done ++ (y ∷ []) → all ≡ done' ++ rest'
-list_more all done rest rest' done' y e r d = e ∙ ap (λ z. done ++ z) r ∙ sym (append_assoc done (y ∷ []) rest') ∙ ap (λ z. z ++ rest') (sym d)
+list_more : {X : Type 0} (all done rest done' : List X) (y : X) → all ≡ done ++ (y ∷ rest) → done' ≡ done ++ (y ∷ []) → all ≡ done' ++ rest
+list_more all done rest done' y e d = e ∙ sym (append_assoc done (y ∷ []) rest) ∙ ap (λ z. z ++ rest) (sym d)
 
 list_all : {X : Type 0} (all done rest : List X) → all ≡ done ++ rest → rest ≡ [] → done ≡ all
 list_all all done rest e r = sym (e ∙ ap (λ z. done ++ z) r ∙ append-nil done)
 
--- before code i of x: k bits stand in out, which held before, and the lists so far are u and v
-abbrev pub Reading : List ℕ → List ℕ → ℕ → ℕ → List ℕ → List ℕ → List ℕ → Type 0
-Reading x before i k out u v =
-    ((i ≤ length x) × (k ≤ i) × (bytes (pairs x) ≡ take k out ++ bytes (pairs (drop i x))) × (drop k out ≡ drop k before))
-    × (differ x ≡ u ++ differ (drop i x))
-    × (common x ≡ v ++ common (drop i x))
+no_pairs_left : (rest : List ℕ) → length rest < 2 → (differ rest ≡ []) × (common rest ≡ [])
+no_pairs_left [] h = (refl, refl)
+no_pairs_left (a ∷ []) h = (refl, refl)
+no_pairs_left (a ∷ (b ∷ rest)) h = absurd (omega arith)
 
--- the element of differ for the pair at i
-abbrev pub flag : List ℕ → ℕ → ℕ
-flag x i = cond (slice_index x i == slice_index x (i + 1)) 0 1
+-- the codes in rest are still to be read: k bits stand in out, which held before, and the lists so far are u and v
+pub record Reading (x before rest : List ℕ) (k : ℕ) (out u v : List ℕ) : Type 0 where
+  pub bits : Writing x before rest k out
+  pub first : differ x ≡ u ++ differ rest
+  pub second : common x ≡ v ++ common rest
 
-module _ (x before : List ℕ) (i k : ℕ) (out u v : List ℕ) (reading : Reading x before i k out u v) where
-  differ_read : i + 2 ≤ length x → (u' : List ℕ) → u' ≡ u ++ (flag x i ∷ []) → differ x ≡ u' ++ differ (drop (i + 2) x)
-  differ_read h u' du = list_more (differ x) u (differ (drop i x)) (differ (drop (i + 2) x)) u' (flag x i) reading.1 (differ_more x i h) du
+flag : (e : Bool) → from_bool (not e) ≡ cond e 0 1
+flag true = refl
+flag false = refl
 
-  pub reading_same : i + 2 ≤ length x → slice_index x i ≡ slice_index x (i + 1) → (u' v' : List ℕ) → u' ≡ u ++ (flag x i ∷ []) → v' ≡ v ++ (slice_index x (i + 1) ∷ []) → Reading x before (i + 2) k out u' v'
-  reading_same h e u' v' du dv = (
-    write_same x before i k out h reading.0 e,
-    differ_read h u' du,
-    list_more (common x) v (common (drop i x)) (common (drop (i + 2) x)) v' (slice_index x (i + 1)) reading.2 (common_same x i h e) dv,
-  )
+module _ (x before : List ℕ) (a b : ℕ) (rest : List ℕ) (k : ℕ) (out u v : List ℕ) (reading : Reading x before (a ∷ (b ∷ rest)) k out u v) where
+  differ_read : (u' : List ℕ) → u' ≡ u ++ (from_bool (not (a == b)) ∷ []) → differ x ≡ u' ++ differ rest
+  differ_read u' du = list_more (differ x) u (differ rest) u' (cond (a == b) 0 1) reading.first (du ∙ ap (λ c. u ++ (c ∷ [])) (flag (a == b)))
 
-  pub reading_other : i + 2 ≤ length x → (slice_index x i ≢ slice_index x (i + 1)) → k < length out → (bit : ℕ) → bit ≡ byte (nat_lt (slice_index x (i + 1)) (slice_index x i)) → (u' : List ℕ) → u' ≡ u ++ (flag x i ∷ []) → Reading x before (i + 2) (k + 1) (slice_set out k bit) u' v
-  reading_other h e room bit is u' du = (
-    write_other x before i k out h reading.0 e room bit is,
-    differ_read h u' du,
-    reading.2 ∙ ap (λ r. v ++ r) (common_other x i h e),
-  )
+  pub reading_same : a ≡ b → (u' v' : List ℕ) → u' ≡ u ++ (from_bool (not (a == b)) ∷ []) → v' ≡ v ++ (a ∷ []) → Reading x before rest k out u' v'
+  reading_same e u' v' du dv =
+      let c : common (a ∷ (b ∷ rest)) ≡ a ∷ common rest = cond-true _ _ _ (eq-eqb a b e) in
+      record {
+        bits = write_same x before a b rest k out reading.bits e;
+        first = differ_read u' du;
+        second = list_more (common x) v (common rest) v' a (reading.second ∙ ap (λ r. v ++ r) c) dv;
+      }
 
-  pub reading_all : length x - i < 2 → k ≤ length out → Written (pairs x) before k out × (u ≡ differ x) × (v ≡ common x)
-  reading_all less room =
-      let none = no_pairs_left (drop i x) (rw length-drop less) in (
-        write_all x before i k out reading.0 less room,
-        list_all (differ x) u (differ (drop i x)) reading.1 none.0,
-        list_all (common x) v (common (drop i x)) reading.2 none.1,
-      )
+  pub reading_other : (a ≢ b) → k < length out → (u' : List ℕ) → u' ≡ u ++ (from_bool (not (a == b)) ∷ []) → Reading x before rest (k + 1) (slice_set out k (from_bool (nat_lt b a))) u' v
+  reading_other e room u' du =
+      let c : common (a ∷ (b ∷ rest)) ≡ common rest = cond-false _ _ _ (ne_eqb a b e) in
+      record {
+        bits = write_other x before a b rest k out reading.bits e room;
+        first = differ_read u' du;
+        second = reading.second ∙ ap (λ r. v ++ r) c;
+      }
+
+pub reading_all : (x before rest : List ℕ) (k : ℕ) (out u v : List ℕ) → Reading x before rest k out u v → length rest < 2 → k ≤ length out → Written (pairs x) before k out × (u ≡ differ x) × (v ≡ common x)
+reading_all x before rest k out u v reading short room =
+    let none = no_pairs_left rest short in (
+      write_all x before rest k out reading.bits short room,
+      list_all (differ x) u (differ rest) reading.first none.0,
+      list_all (common x) v (common rest) reading.second none.1,
+    )

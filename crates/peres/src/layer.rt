@@ -8,7 +8,7 @@ ghost use Rattle.peres.specs.PeresEven.{peres_even};
 use crate::parts::take_apart;
 use extractors::fault::ExtractorFault;
 use extractors::interface::CoinExtractor;
-use extractors::judge::judge;
+use extractors::scratch::extract_by;
 use std::alloc::Global;
 
 /// The greatest depth.
@@ -36,7 +36,8 @@ impl<E: Drop> Peres<E> {
     }
 }
 
-/// Writes the bits of a depth to the front of `out`.
+/// Writes the bits of a depth to the front of `out`, and answers their number.
+// No method is plainer: the depth goes down from call to call, while that of the layer stays.
 fn fill<E: CoinExtractor>(
     below: &E,
     heap: Global,
@@ -55,13 +56,11 @@ fn fill<E: CoinExtractor>(
         return below.extract(heap, recording, out);
     }
     let parts = take_apart(heap, recording, out)?;
-    let (u, v) = (&parts.differing, &parts.agreed);
     let next = depth - 1;
-    let k = parts.yielded;
-    let a = fill(below, heap, next, u, &mut out[k..k + u.len()])?;
-    let at = k + a;
-    let b = fill(below, heap, next, v, &mut out[at..at + v.len()])?;
-    Ok(at + b)
+    let mut given = parts.yielded;
+    given += fill(below, heap, next, &parts.differing, &mut out[given..])?;
+    given += fill(below, heap, next, &parts.agreed, &mut out[given..])?;
+    Ok(given)
 }
 
 impl<E: CoinExtractor> CoinExtractor for Peres<E> {
@@ -75,10 +74,8 @@ impl<E: CoinExtractor> CoinExtractor for Peres<E> {
         recording: &[u8],
         tray: &mut [u8],
     ) -> Result<usize, ExtractorFault> {
-        judge(2, recording, tray.len())?;
-        let mut scratch = vec![in heap; 0u8; recording.len()]?;
-        let n = fill(&self.below, heap, self.depth, recording, &mut scratch)?;
-        tray[0..n].copy_from_slice(&scratch[0..n]);
-        Ok(n)
+        extract_by(heap, 2, recording, tray, |scratch| {
+            fill(&self.below, heap, self.depth, recording, scratch)
+        })
     }
 }

@@ -16,6 +16,7 @@ pub(crate) struct Parts {
     pub(crate) agreed: Vec<u8>,
 }
 
+// Not the pairs extractor with two lists beside it: a layer reads its recording once.
 /// Writes the bits of pairs to the front of `out`, and lists where pairs differ and in what they agree.
 pub(crate) fn take_apart(
     heap: Global,
@@ -25,24 +26,21 @@ pub(crate) fn take_apart(
     requires { length recording.now ≤ length out.old }
     ensures { TakenApart recording.now out.old result out.new }
 {
+    let (pairs, _) = recording.as_chunks::<2>();
     let mut differing = Vec::new(heap);
     let mut agreed = Vec::new(heap);
-    let mut i = 0;
-    let mut k = 0;
-    while recording.len() - i >= 2 {
-        let a = recording[i];
-        let b = recording[i + 1];
-        differing.push(if a != b { 1 } else { 0 })?;
+    let mut given = 0;
+    for [a, b] in pairs {
+        differing.push(u8::from(a != b))?;
         if a == b {
-            agreed.push(b)?;
+            agreed.push(*a)?;
         } else {
-            out[k] = if b < a { 1 } else { 0 };
-            k += 1;
+            out[given] = u8::from(b < a);
+            given += 1;
         }
-        i += 2;
     }
     Ok(Parts {
-        yielded: k,
+        yielded: given,
         differing,
         agreed,
     })

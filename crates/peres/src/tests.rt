@@ -1,6 +1,6 @@
 //! The Peres layer on small recordings, over none and over itself, and the refusal of its depth.
 use crate::layer::Peres;
-use extractors::fault::ExtractorFault;
+use extractors::fault::{ExtractorFault, Fault};
 use extractors::interface::CoinExtractor;
 use extractors::no_bits::NoBits;
 use std::test::Fail;
@@ -53,8 +53,7 @@ fn layer_over_a_layer(rt: HostRuntime) -> Result<(), Fail> {
 #[test]
 fn depth_out_of_range(rt: HostRuntime) -> Result<(), Fail> {
     let Err(fault) = Peres::new(NoBits, 13) else {
-        assert!(rt; false);
-        return Ok(());
+        panic!(rt; "a layer of depth 13 was made");
     };
     assert_eq!(rt; fault, ExtractorFault::Parameter(13));
     assert_eq!(rt; fault.number(), 5);

@@ -3,55 +3,48 @@ ghost use Rattle.std.specs.Prelude.{◌<◌};
 
 use std::alloc::{AllocError, Global};
 
-/// The block of `n` codes below the size that has this number.
-pub(crate) fn block_of(
-    heap: Global,
-    size: u8,
-    n: usize,
-    number: usize,
-) -> Result<Vec<u8>, AllocError>
-    requires { 0 < size }
-{
-    let mut block = vec![in heap; 0u8; n]?;
-    let mut left = number;
-    for code in block.iter_mut().rev() {
-        *code = (left % usize::from(size)) as u8;
-        left /= usize::from(size);
-    }
-    Ok(block)
+/// How often each of the codes 0, 1 and 2 stands in a block.
+pub(crate) type Counts = [usize; 3];
+
+/// The blocks of one length over the codes below a size.
+#[derive(Clone, Copy)]
+pub(crate) struct Blocks {
+    pub(crate) size: u8,
+    pub(crate) length: u8,
+    ghost some: { 0 < size },
 }
 
-/// How many blocks of `n` codes there are.
-pub(crate) fn blocks(size: u8, n: usize) -> usize {
-    let mut product = 1usize;
-    for _ in 0..n {
-        product = product.saturating_mul(usize::from(size));
+impl Blocks {
+    /// How many blocks there are.
+    fn total(&self) -> usize {
+        usize::from(self.size).saturating_pow(u32::from(self.length))
     }
-    product
+
+    /// The block with this number.
+    pub(crate) fn block(&self, heap: Global, number: usize) -> Result<Vec<u8>, AllocError> {
+        let size = usize::from(self.size);
+        let mut block = vec![in heap; 0u8; usize::from(self.length)]?;
+        let mut left = number;
+        for code in block.iter_mut().rev() {
+            // A remainder is below the size, so the cast loses nothing.
+            *code = (left % size) as u8;
+            left /= size;
+        }
+        Ok(block)
+    }
+
+    /// The counts of all blocks, in the order of their numbers.
+    pub(crate) fn counts(&self, heap: Global) -> Result<Vec<Counts>, AllocError> {
+        let mut all = Vec::new(heap);
+        for number in 0..self.total() {
+            let block = self.block(heap, number)?;
+            all.push(counts(&block))?;
+        }
+        Ok(all)
+    }
 }
 
-/// The counts of the codes 0, 1 and 2 in one number, four bits for each.
-fn signature(block: &[u8]) -> u32 {
-    let mut counts = 0u32;
-    for code in block {
-        let unit = match *code {
-            0 => 1u32,
-            1 => 16,
-            _ => 256,
-        };
-        counts = counts.wrapping_add(unit);
-    }
-    counts
-}
-
-/// The signatures of all blocks of `n` codes, in the order of their numbers.
-pub(crate) fn signatures(heap: Global, size: u8, n: usize) -> Result<Vec<u32>, AllocError>
-    requires { 0 < size }
-{
-    let mut all = Vec::new(heap);
-    for number in 0..blocks(size, n) {
-        let block = block_of(heap, size, n, number)?;
-        all.push(signature(block.as_slice()))?;
-    }
-    Ok(all)
+/// The counts of a block.
+fn counts(block: &[u8]) -> Counts {
+    [0, 1, 2].map(|code| block.iter().filter(|other| **other == code).count())
 }

@@ -16,12 +16,8 @@ fn compare_all(heap: Global) -> Result<String, AllocError> {
     Ok(text)
 }
 
-fn run(rt: &HostRuntime) -> anyhow::Result<()> {
+fn main(rt: HostRuntime) -> anyhow::Result<()> {
     let text = compare_all(rt.alloc())?;
     rt.print(text)?;
     Ok(())
-}
-
-fn main(rt: HostRuntime) -> anyhow::Result<()> {
-    run(&rt)
 }

@@ -1,4 +1,5 @@
 pub mod GroupWriting
 pub mod BlockWriting
-pub mod Making
+pub mod CoinPassing
+pub mod SymbolPassing
 pub mod PairsAreBlocks

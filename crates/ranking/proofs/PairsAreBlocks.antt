@@ -3,14 +3,14 @@ use Rattle.std.proofs.Common.{◌≡◌, ℕ, ◌+◌, ◌<◌, ◌≤◌, Bool,
 use Rattle.std.proofs.lemmas.Bool.{eq-eqb, ne_eqb, eqb-true, eqb-false}
 use Rattle.std.proofs.lemmas.Bool.Decides.{nat_tests}
 use Rattle.classes.specs.Counting.{one_if, add_up, same_list}
-use Rattle.classes.specs.Recordings.{Codes, Recording, count}
+use Rattle.classes.specs.Recordings.{Recording, count}
 use Rattle.classes.specs.Classes.{count_class, CountLike}
 use Rattle.classes.proofs.Counts.{word_true, word_self, word_eq, add_up_same, add_up_add, add_up_one, add_up_zero}
 use Rattle.classes.proofs.Listings.{count_listing}
 use Rattle.extractors.specs.PairsRule.{pairs}
 use Rattle.ranking.specs.Groups.{in_bits, group_bits, rank_bits}
 use Rattle.ranking.specs.Ranks.{before, rank, class_size, block_bits}
-use Rattle.ranking.specs.Blocks.{by_blocks}
+use Rattle.ranking.specs.PairsAsBlocks.{PairsAreBlocks}
 use Rattle.ranking.specs.RanksInOrder.{rank_below, before_same}
 use Rattle.ranking.specs.BlocksEven.{by_blocks_step}
 
@@ -180,7 +180,7 @@ block_of_pair m a b ha hb = at (eqb a b) refl
     at true q = ap (λ c. block_bits m (a ∷ (c ∷ []))) (sym (eqb-true a b q)) ∙ block_of_same m a ha
     at false q = block_of_other m a b ha hb (eqb-false a b q)
 
-pub pairs_are_blocks : (m : ℕ) (x : List ℕ) → Codes m x → by_blocks 2 (block_bits m) x ≡ pairs x
+pub pairs_are_blocks : PairsAreBlocks
 pairs_are_blocks m [] h = refl
 pairs_are_blocks m (a ∷ []) h = ap (λ s. s ++ []) (block_of_single m a h.0)
 pairs_are_blocks m (a ∷ (b ∷ x)) h =

@@ -140,7 +140,7 @@ places_once (suc a) s =
 -- THE POWERS OF A NUMBER
 
 -- a higher power does not touch bit k
-bit_under : (a k r : ℕ) → k < a → (r + 2 ^ a) / 2 ^ k % 2 ≡ r / 2 ^ k % 2
+pub bit_under : (a k r : ℕ) → k < a → (r + 2 ^ a) / 2 ^ k % 2 ≡ r / 2 ^ k % 2
 bit_under a k r h =
     let j : ℕ = a - k - 1 in
     let e : a ≡ suc j + k = omega arith in
@@ -148,12 +148,12 @@ bit_under a k r h =
     ap (λ x. (r + x) / 2 ^ k % 2) f ∙ ap (λ x. x % 2) (add-mul-div_right r (2 ^ suc j) (pow_pos k))
     ∙ ap (λ x. (r / 2 ^ k + x) % 2) (pow-suc 2 j) ∙ add-mul-mod_self_right (r / 2 ^ k) (2 ^ j) 2
 
-bit_at : (a r : ℕ) → r < 2 ^ a → (r + 2 ^ a) / 2 ^ a % 2 ≡ 1
+pub bit_at : (a r : ℕ) → r < 2 ^ a → (r + 2 ^ a) / 2 ^ a % 2 ≡ 1
 bit_at a r h =
     ap (λ x. (r + x) / 2 ^ a % 2) (sym (one-mul (2 ^ a))) ∙ ap (λ x. x % 2) (add-mul-div_right r 1 (pow_pos a))
     ∙ ap (λ x. (x + 1) % 2) (div-eq_of_lt h)
 
-bit_none : (k r : ℕ) → r < 2 ^ k → r / 2 ^ k % 2 ≡ 0
+pub bit_none : (k r : ℕ) → r < 2 ^ k → r / 2 ^ k % 2 ≡ 0
 bit_none k r h = ap (λ x. x % 2) (div-eq_of_lt h)
 
 -- the powers of r + 2 ^ a are 2 ^ a and those of r

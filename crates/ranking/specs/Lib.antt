@@ -2,6 +2,7 @@ pub mod Groups
 pub mod GroupLaw
 pub mod Ranks
 pub mod Blocks
+pub mod PairsAsBlocks
 pub mod Binomials
 pub mod Factorials
 pub mod Sizes

@@ -2,6 +2,7 @@
 ghost use Rattle.std.specs.Prelude.{◌≡◌, ◌≤◌};
 ghost use Rattle.ranking.specs.Binomials.{choose};
 
+// One flat table of 1,891 numbers is a rule of the project.
 /// Row `n` begins at `n (n + 1) / 2` and has the entries 0 to `n`.
 const BINOMIALS: [u64; 1891] = [
     1,

@@ -1,26 +1,18 @@
 //! The group rule, for both rankings: the bits of a rank in a class.
-ghost use Rattle.std.specs.Prelude.{◌≡◌, ◌<◌, ◌≤◌, ◌++◌, length, drop};
+ghost use Rattle.std.specs.Prelude.{◌≡◌, ◌^◌, ◌<◌, ◌≤◌, length};
 ghost use Rattle.extractors.specs.Bits.{bytes};
 ghost use Rattle.extractors.specs.Calls.{Written};
 ghost use Rattle.ranking.specs.Groups.{in_bits, rank_bits};
 
-/// Writes a position in `a` bits, highest first, to the front of the tray.
-fn write_bits(a: usize, position: u64, tray: &mut [u8])
-    requires room { a ≤ length tray.old }
-    requires few { a < 64 }
-    ensures { tray.new ≡ bytes (in_bits a position) ++ drop a tray.old }
+/// Writes a position over all of `bits`, highest first.
+fn write_bits(position: u64, bits: &mut [u8])
+    requires few { length bits.old < 64 }
+    requires within { position < 2 ^ length bits.old }
+    ensures { bits.new ≡ bytes (in_bits (length bits.old) position) }
 {
-    let mut left = position;
-    let mut k = a;
-    for i in 0..a {
-        k -= 1;
-        let power = 1u64 << k;
-        if left < power {
-            tray[i] = 0;
-        } else {
-            tray[i] = 1;
-            left -= power;
-        }
+    let a = bits.len();
+    for (i, bit) in bits.iter_mut().enumerate() {
+        *bit = u8::from(position >> (a - 1 - i) & 1 == 1);
     }
 }
 
@@ -36,7 +28,7 @@ pub(crate) fn write_rank_bits(size: u64, rank: u64, tray: &mut [u8]) -> usize
         let power = 1u64 << a;
         if left >= power {
             if position < power {
-                write_bits(a, position, tray);
+                write_bits(position, &mut tray[..a]);
                 return a;
             }
             left -= power;

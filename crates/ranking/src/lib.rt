@@ -2,6 +2,7 @@
 #![tactic(auto)]
 
 mod binomial;
+mod blocks;
 pub mod coin;
 mod group;
 pub mod symbol;

@@ -1,63 +1,34 @@
 //! The symbol ranking: blocks of codes of any size, by running counts.
-ghost use Rattle.std.specs.Prelude.{◌≡◌, ◌*◌, ◌^◌, ◌<◌, ◌≤◌, length, take, IfOk, sum as sum_of};
-ghost use Rattle.classes.specs.Recordings.{Codes, Sized, width};
-ghost use Rattle.extractors.specs.Calls.{Judged, Written};
+ghost use Rattle.std.specs.Prelude.{◌≡◌, ◌^◌, ◌<◌, ◌≤◌, length, sum as sum_of};
+ghost use Rattle.classes.specs.Recordings.{Codes};
 ghost use Rattle.extractors.specs.Piles.Pile.{bare};
-ghost use Rattle.ranking.specs.GroupLaw.{GroupLaw};
 ghost use Rattle.ranking.specs.Blocks.{by_blocks};
 ghost use Rattle.ranking.specs.Factorials.{Multinomial};
-ghost use Rattle.ranking.specs.Made.{outside};
 ghost use Rattle.ranking.specs.Ranks.{block_bits, class_size, rank as rank_of};
-ghost use Rattle.ranking.specs.Sizes.{SymbolSizes};
 ghost use Rattle.ranking.specs.RankingEven.{symbol_ranking_even};
 
-use crate::group::write_rank_bits;
+pub use crate::blocks::LEAST_BLOCK;
+use crate::blocks::{Ranking, write_blocks};
 use extractors::fault::ExtractorFault;
 use extractors::interface::SymbolExtractor;
-use extractors::judge::judge;
+use extractors::judge::{GREATEST_SIZE, judge};
 use std::alloc::Global;
 
-/// The shortest block.
-pub const LEAST_BLOCK: usize = 2;
 /// The longest block of symbols: its arrangements fit 64 bits.
 pub const GREATEST_BLOCK: usize = 20;
 /// The number of codes of the largest alphabet.
-const CODES: usize = 16;
+// The cast loses nothing, and a constant's value calls no function, so not `usize::from`.
+const CODES: usize = GREATEST_SIZE as usize;
 
-/// Ranks blocks of symbols in their count classes and gives their bits by the group rule.
-#[derive(Clone, Copy)]
-pub struct SymbolRanking {
-    block: usize,
-    ghost least: { 2 ≤ block },
-    ghost greatest: { block ≤ 20 },
-}
+/// Ranks blocks of 2 to 20 symbols in their count classes and gives their bits by the group rule.
+pub type SymbolRanking = Ranking<GREATEST_BLOCK>;
 
-impl SymbolRanking {
-    /// Blocks of `block` symbols, 2 to 20; any other length is refused.
-    pub fn new(block: usize) -> Result<SymbolRanking, ExtractorFault>
-        ensures refuses { Judged (outside 2 20 block) result }
-        ensures value { IfOk result (λ c. c.block ≡ block) }
-        ensures sizes { SymbolSizes }
-        ensures groups_even { GroupLaw }
-    {
-        if block < LEAST_BLOCK || block > GREATEST_BLOCK {
-            return Err(ExtractorFault::Parameter(block));
-        }
-        Ok(SymbolRanking { block })
-    }
-}
-
-/// The sum of the first `d` counts.
-fn sum_below(counts: &[u64], d: usize) -> u64
-    requires within { d ≤ length counts.now }
-    requires fits { sum_of counts.now < 2 ^ 64 }
-    ensures { result ≡ sum_of (take d counts.now) }
+/// The sum of some counts.
+fn total(counts: &[u64]) -> u64
+    requires { sum_of counts.now < 2 ^ 64 }
+    ensures { result ≡ sum_of counts.now }
 {
-    let mut sum = 0;
-    for c in 0..d {
-        sum += counts[c];
-    }
-    sum
+    counts.iter().sum()
 }
 
 /// The rank of a block of codes below the size in its count class, and the number of arrangements of its codes, which is
@@ -73,35 +44,18 @@ pub(crate) fn symbol_rank(size: u8, block: &[u8]) -> (u64, u64)
     ensures factorials { Multinomial size block.now result.1 }
 {
     let mut counts = [0u64; CODES];
-    let mut rest: u64 = 0;
-    let mut arrangements: u64 = 1;
-    let mut rank: u64 = 0;
-    for i in (0..block.len()).rev() {
-        let code = block[i] as usize;
+    let mut arrangements = 1;
+    let mut rank = 0;
+    for (later, code) in block.iter().rev().enumerate() {
+        // The cast loses nothing, and u64 has no From of usize.
+        let length = later as u64 + 1;
+        let code = usize::from(*code);
         let own = counts[code] + 1;
         counts[code] = own;
-        rest += 1;
-        arrangements = arrangements * rest / own;
-        rank += arrangements * sum_below(&counts, code) / rest;
+        arrangements = arrangements * length / own;
+        rank += arrangements * total(&counts[..code]) / length;
     }
     (rank, arrangements)
-}
-
-/// Writes the bits of the blocks of `b` codes, one block after another, to the front of the tray, and answers their number.
-fn write_blocks(size: u8, b: usize, recording: &[u8], tray: &mut [u8]) -> usize
-    requires some { 0 < b }
-    requires short { b ≤ 20 }
-    requires sized { Sized size }
-    requires codes { Codes size recording.now }
-    requires room { width size * length recording.now ≤ length tray.old }
-    ensures { Written (by_blocks b (block_bits size) recording.now) tray.old result tray.new }
-{
-    let mut given = 0;
-    for block in recording.chunks(b) {
-        let (rank, arrangements) = symbol_rank(size, block);
-        given += write_rank_bits(arrangements, rank, &mut tray[given..]);
-    }
-    given
 }
 
 impl SymbolExtractor for SymbolRanking {
@@ -117,6 +71,7 @@ impl SymbolExtractor for SymbolRanking {
         tray: &mut [u8],
     ) -> Result<usize, ExtractorFault> {
         judge(size, recording, tray.len())?;
-        Ok(write_blocks(size, self.block, recording, tray))
+        let rule = |block: &[u8]| symbol_rank(size, block);
+        Ok(write_blocks(size, self.block, recording, tray, rule))
     }
 }

@@ -1,34 +1,28 @@
 //! Ranks of small blocks, whole recordings, the longest blocks, and block lengths out of range.
 use crate::coin::{CoinRanking, coin_rank};
 use crate::symbol::{SymbolRanking, symbol_rank};
-use extractors::fault::ExtractorFault;
+use extractors::fault::{ExtractorFault, Fault};
 use extractors::interface::{CoinExtractor, SymbolExtractor};
+use std::array;
 use std::test::Fail;
 
 /// The first `n` bits of a tray as a number, the first highest.
 fn number(tray: &[u8], n: usize) -> u64 {
-    let mut value = 0u64;
-    for bit in tray.iter().take(n) {
-        value = value.wrapping_mul(2).wrapping_add(u64::from(*bit));
-    }
-    value
+    tray.iter().take(n).fold(
+        0u64,
+        |value, bit| value.wrapping_mul(2).wrapping_add(u64::from(*bit)),
+    )
 }
 
 #[test]
 fn ranks_of_coins(rt: HostRuntime) {
-    let (rank, size) = coin_rank(&[1, 0, 0, 1]);
-    assert_eq!(rt; rank, 3);
-    assert_eq!(rt; size, 6);
-    let (rank, size) = coin_rank(&[1, 1, 0, 0]);
-    assert_eq!(rt; rank, 5);
-    assert_eq!(rt; size, 6);
+    assert_eq!(rt; coin_rank(&[1, 0, 0, 1]), (3, 6));
+    assert_eq!(rt; coin_rank(&[1, 1, 0, 0]), (5, 6));
 }
 
 #[test]
 fn ranks_of_symbols(rt: HostRuntime) {
-    let (rank, size) = symbol_rank(3, &[2, 0, 1]);
-    assert_eq!(rt; rank, 4);
-    assert_eq!(rt; size, 6);
+    assert_eq!(rt; symbol_rank(3, &[2, 0, 1]), (4, 6));
 }
 
 #[test]
@@ -62,11 +56,7 @@ fn block_of_symbols(rt: HostRuntime) -> Result<(), Fail> {
 
 /// Sixty coins, one and zero in turn.
 fn in_turn() -> [u8; 60] {
-    let mut coins = [0; 60];
-    for i in 0..30usize {
-        coins[2 * i] = 1;
-    }
-    coins
+    array::from_fn(|i| u8::from(i % 2 == 0))
 }
 
 #[test]
@@ -82,11 +72,8 @@ fn longest_block_of_coins(rt: HostRuntime) -> Result<(), Fail> {
 /// Twenty codes, all sixteen among them: up to 15, then 3 down to 0.
 fn up_and_down() -> [u8; 20] {
     let mut codes = [0; 20];
-    for i in 0..16u8 {
-        codes[i as usize] = i;
-    }
-    for i in 0..4u8 {
-        codes[16 + i as usize] = 3 - i;
+    for (place, code) in codes.iter_mut().zip((0..16u8).chain((0..4u8).rev())) {
+        *place = code;
     }
     codes
 }
@@ -123,21 +110,13 @@ fn equal_codes_give_nothing(rt: HostRuntime) -> Result<(), Fail> {
 }
 
 #[test]
-fn block_lengths(rt: HostRuntime) -> Result<(), Fail> {
+fn block_lengths(rt: HostRuntime) {
     assert!(rt; CoinRanking::new(2).is_ok());
     assert!(rt; CoinRanking::new(60).is_ok());
     assert!(rt; SymbolRanking::new(20).is_ok());
     assert!(rt; SymbolRanking::new(1).is_err());
     assert!(rt; SymbolRanking::new(21).is_err());
-    match CoinRanking::new(61) {
-        Ok(_) => {
-            assert!(rt; false);
-            Ok(())
-        },
-        Err(fault) => {
-            assert_eq!(rt; fault, ExtractorFault::Parameter(61));
-            assert_eq!(rt; fault.number(), 5);
-            Ok(())
-        }
-    }
+    let fault = CoinRanking::new(61).err();
+    assert_eq!(rt; fault, Some(ExtractorFault::Parameter(61)));
+    assert_eq!(rt; fault.map(|fault| fault.number()), Some(5));
 }

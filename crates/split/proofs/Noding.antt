@@ -1,42 +1,61 @@
--- Nodes and levels as the loops meet them: a node code by code, a level node by node, and the room that they take. Assumes nothing.
-use Rattle.std.proofs.Common.{◌≡◌, ℕ, zero, suc, ◌+◌, ◌-◌, ◌*◌, ◌/◌, ◌%◌, ◌^◌, ◌<◌, ◌≤◌, Bool, true, false, cond, eqb, ltb, List, [], ◌∷◌, ◌++◌, map, length, get_or, take, drop, Ok, Err, filter, Result, sym, refl, ap, ◌∙◌, subst, append_assoc, append-nil, mul-le-mul_right, suc-mul, arith, length-take}
+-- Nodes and levels as the loops meet them: the nodes of a level code by code, a level row by row, and the room that they take. Assumes nothing.
+use Rattle.std.proofs.Common.{◌≡◌, ℕ, zero, suc, ◌+◌, ◌-◌, ◌*◌, ◌/◌, ◌%◌, ◌^◌, ◌<◌, ◌≤◌, Bool, true, false, cond, eqb, ltb, List, [], ◌∷◌, ◌++◌, map, length, get_or, take, drop, set, filter, sym, refl, ap, ap₂, ◌∙◌, subst, mul-le-mul_right, suc-mul, arith, length-take, shl_exact, shr_lt}
 use borrow.Rule.Slice.PartMut.{put_mid}
-use Rattle.std.proofs.ByRecursion.{All-map}
-use Rattle.std.proofs.lemmas.List.{drop_more, drop_all}
+use Rattle.std.specs.List.{All, sum_by}
+use Rattle.std.proofs.ByRecursion.{All-get_or, All-map}
+use Rattle.std.proofs.lemmas.List.{drop_more, take_all, take_more}
+use Rattle.std.proofs.lemmas.List.Sums.{sum_by-append, sum_by-take-le}
+use Rattle.std.proofs.lemmas.List.Elements.{All-from_get_or}
 use Rattle.std.proofs.lemmas.Bool.{cond-true, cond-false, eq-eqb, ne_eqb}
 use Rattle.std.proofs.lemmas.Bool.Decides.{nat_tests}
-use Rattle.classes.specs.Recordings.{Recording}
+use Rattle.classes.specs.Recordings.{Codes, Recording}
 use Rattle.classes.proofs.Counts.{all_of}
-use Rattle.extractors.specs.declared.fault.ExtractorFault.{ExtractorFault}
-use Rattle.extractors.specs.Calls.{Extracted, Filled, Written}
+use Rattle.extractors.specs.Calls.{Written}
 use Rattle.extractors.specs.Bits.{gather}
-use Rattle.extractors.proofs.Judging.{unrefused, memory_only}
+use Rattle.extractors.proofs.Filing.{Filing, file_one}
+use Rattle.extractors.specs.Rows.{Filed}
+use Rattle.extractors.proofs.Gathers.{gather_same}
 use Rattle.extractors.proofs.Writing.{join, yield_fits}
-use Rattle.split.specs.SplitRule.{prefix, next_bit, node}
+use Rattle.split.specs.SplitRule.{prefix, next_bit, node, level}
 
--- A NODE, CODE BY CODE
+-- THE NODES OF ONE LEVEL, CODE BY CODE
 
--- the loop has made done of the first i codes
-module _ (w d p : ℕ) (x : List ℕ) (i : ℕ) (done : List ℕ) (so_far : node w d p x ≡ done ++ node w d p (drop i x)) where
-  pub node_here : i < length x → get_or x i 0 / 2 ^ (w - d) ≡ p → (done' : List ℕ) → done' ≡ done ++ ((get_or x i 0 / 2 ^ (w - d - 1) % 2) ∷ []) → node w d p x ≡ done' ++ node w d p (drop (i + 1) x)
-  node_here h e done' is =
-      let rest = node w d p (drop (i + 1) x) in
-      let y = get_or x i 0 / 2 ^ (w - d - 1) % 2 in
+pub one_shifted : (d : ℕ) → d < 64 → (1 * 2 ^ d) % 2 ^ 64 ≡ 2 ^ d
+one_shifted d h =
+    let one : 1 < 2 ^ 1 = omega arith in
+    let fits : 1 + d ≤ 64 = omega arith in
+    omega (arith, shl_exact 1 d 64 one fits)
+
+-- a code in w bits has a prefix in d bits
+prefix_below : (w d c : ℕ) → d ≤ w → c < 2 ^ w → prefix w d c < 2 ^ d
+prefix_below w d c h l = let e : w ≡ d + (w - d) = omega arith in shr_lt d (w - d) (subst (λ v. c < 2 ^ v) e l)
+
+module _ (w d : ℕ) (x : List ℕ) (i : ℕ) (h : i < length x) where
+  abbrev code : ℕ
+  code = get_or x i 0
+
+  node_here : node w d (prefix w d code) (drop i x) ≡ (code / 2 ^ (w - d - 1) % 2) ∷ node w d (prefix w d code) (drop (i + 1) x)
+  node_here =
+      let p = prefix w d code in
       let k : w - suc d ≡ w - d - 1 = omega arith in
-      let one : node w d p (drop i x) ≡ y ∷ rest =
-      ap (node w d p) (drop_more x i 0 h) ∙ ap (map (next_bit w d)) (cond-true _ _ _ (eq-eqb (prefix w d (get_or x i 0)) p e)) ∙ ap (λ j. (get_or x i 0 / 2 ^ j % 2) ∷ rest) k in
-      so_far ∙ ap (λ z. done ++ z) one ∙ sym (append_assoc done (y ∷ []) rest) ∙ ap (λ z. z ++ rest) (sym is)
+      ap (node w d p) (drop_more x i 0 h) ∙ ap (map (next_bit w d)) (cond-true _ _ _ (eq-eqb p p refl)) ∙ ap (λ j. (code / 2 ^ j % 2) ∷ node w d p (drop (i + 1) x)) k
 
-  pub node_other : i < length x → (get_or x i 0 / 2 ^ (w - d) ≡ p → ⊥) → node w d p x ≡ done ++ node w d p (drop (i + 1) x)
-  node_other h e =
-      so_far ∙ ap (λ z. done ++ z) (ap (node w d p) (drop_more x i 0 h) ∙ ap (map (next_bit w d)) (cond-false _ _ _ (ne_eqb (prefix w d (get_or x i 0)) p e)))
+  node_other : (p : ℕ) → (p ≡ prefix w d code → ⊥) → node w d p (drop i x) ≡ node w d p (drop (i + 1) x)
+  node_other p ne = ap (node w d p) (drop_more x i 0 h) ∙ ap (map (next_bit w d)) (cond-false _ _ _ (ne_eqb (prefix w d code) p (λ e. ne (sym e))))
 
-  pub node_all : length x ≤ i → done ≡ node w d p x
-  node_all h = sym (so_far ∙ ap (λ z. done ++ z) (ap (node w d p) (drop_all i x h)) ∙ append-nil done)
+  pub lead_below : d < w → Codes (2 ^ w) x → prefix w d code < 2 ^ d
+  lead_below deep codes = prefix_below w d code (omega arith) (All-get_or (λ c. c < 2 ^ w) x i 0 h codes)
+
+  -- the next bit of the code at i is filed under its prefix
+  pub bit_filed : (nodes : List (List ℕ)) → Filing (2 ^ d) (node w d) x i nodes → d < w → Codes (2 ^ w) x → (p : ℕ) → p ≡ prefix w d code
+      → (nodes' : List (List ℕ)) → nodes' ≡ set nodes p (get_or nodes p [] ++ ((code / 2 ^ (w - d - 1) % 2) ∷ [])) → Filing (2 ^ d) (node w d) x (i + 1) nodes'
+  bit_filed nodes so_far deep codes p same nodes' is =
+      file_one (2 ^ d) (node w d) x i nodes so_far (prefix w d code) (code / 2 ^ (w - d - 1) % 2) (lead_below deep codes) node_here node_other nodes'
+      (is ∙ ap (λ q. set nodes q (get_or nodes q [] ++ ((code / 2 ^ (w - d - 1) % 2) ∷ []))) same)
 
 -- HOW MANY CODES THE NODES OF ONE LEVEL TAKE
 
-abbrev pub taken : ℕ → ℕ → ℕ → List ℕ → ℕ
+abbrev taken : ℕ → ℕ → ℕ → List ℕ → ℕ
 taken w d zero x = 0
 taken w d (suc n) x = taken w d n x + length (node w d n x)
 
@@ -63,7 +82,7 @@ taken_one w d (suc n) c x = at (prefix w d c) (taken_one w d n c x) (one_more (e
         let i : cond (ltb p n) 1 0 + cond (eqb p n) 1 0 ≡ cond (ltb p (suc n)) 1 0 = grind (arith, nat_tests) in
         omega arith
 
-pub taken_le : (w d n : ℕ) (x : List ℕ) → taken w d n x ≤ length x
+taken_le : (w d n : ℕ) (x : List ℕ) → taken w d n x ≤ length x
 taken_le w d n [] = omega (arith, taken_none w d n)
 taken_le w d n (c ∷ x) = omega (arith, taken_one w d n c x, taken_le w d n x, at_most (ltb (prefix w d c) n))
   where
@@ -71,27 +90,49 @@ taken_le w d n (c ∷ x) = omega (arith, taken_one w d n c x, taken_le w d n x, 
     at_most true = omega arith
     at_most false = omega arith
 
-pub taken_more : (w d n : ℕ) (x : List ℕ) → taken w d (n + 1) x ≡ taken w d n x + length (node w d n x)
-taken_more w d n x = let e : n + 1 ≡ suc n = omega arith in ap (λ k. taken w d k x) e
-
--- the next node has room behind the bits of the nodes before it
-pub node_room : (w d p : ℕ) (x : List ℕ) (at len : ℕ) → at ≤ taken w d p x → len ≡ length (node w d p x) → at + len ≤ length x
-node_room w d p x at len h l = omega (arith, taken_le w d (suc p) x)
-
 -- a node is a recording of coins
-pub node_recorded : (w d p : ℕ) (x : List ℕ) → length x ≤ 4096 → Recording 2 (node w d p x)
+node_recorded : (w d p : ℕ) (x : List ℕ) → length x ≤ 4096 → Recording 2 (node w d p x)
 node_recorded w d p x few =
     let own = filter (λ c. eqb (prefix w d c) p) x in (
       All-map (λ c. c < 2) (next_bit w d) own (all_of (λ c. next_bit w d c < 2) (λ c. omega arith) own),
       omega (arith, taken_le w d (suc p) x),
     )
 
--- BITS PART BY PART
+-- ROWS OF COINS
 
--- what an extractor leaves that nothing refuses
-pub filled : (f : List ℕ → List Bool) (x out : List ℕ) (r : Result ℕ ExtractorFault) (out' : List ℕ) → Recording 2 x → length x ≤ length out → Extracted f 2 x out r out' → Filled (f x) out r out'
-filled f x out (Ok n) out' rec room e = e.1
-filled f x out (Err d) out' rec room e = memory_only _ d (unrefused 2 x (length out) (omega arith, omega arith) rec (omega arith)) e.0
+-- the codes in the rows before p, and those in the row p
+pub rows_more : (rows : List (List ℕ)) (p : ℕ) → p < length rows → sum_by length (take (p + 1) rows) ≡ sum_by length (take p rows) + length (get_or rows p [])
+rows_more rows p h = ap (sum_by length) (take_more rows p [] h) ∙ sum_by-append length (take p rows) (get_or rows p [] ∷ []) ∙ one
+  where
+    one : sum_by length (take p rows) + sum_by length (get_or rows p [] ∷ []) ≡ sum_by length (take p rows) + length (get_or rows p [])
+    one = omega arith
+
+-- the row p has room behind the bits of the rows before it
+pub row_room : (rows : List (List ℕ)) (p at : ℕ) → p < length rows → at ≤ sum_by length (take p rows) → at + length (get_or rows p []) ≤ sum_by length rows
+row_room rows p at h l = omega (arith, rows_more rows p h, sum_by-take-le length rows (p + 1))
+
+module _ (w d : ℕ) (x : List ℕ) (nodes : List (List ℕ)) (filed : Filed (2 ^ d) (node w d) x nodes) where
+  nodes_taken : (n : ℕ) → n ≤ 2 ^ d → sum_by length (take n nodes) ≡ taken w d n x
+  nodes_taken zero h = refl
+  nodes_taken (suc n) h =
+      let e : suc n ≡ n + 1 = omega arith in
+      ap (λ k. sum_by length (take k nodes)) e ∙ rows_more nodes n (omega (arith, filed.keys))
+      ∙ ap₂ ◌+◌ (nodes_taken n (omega arith)) (ap length (filed.each n (omega arith)))
+
+  -- the nodes of a level have no more codes than the recording
+  pub nodes_fit : sum_by length nodes ≤ length x
+  nodes_fit =
+      let all : take (2 ^ d) nodes ≡ nodes = take_all (2 ^ d) nodes (omega (arith, filed.keys)) in
+      omega (arith, ap (sum_by length) all, nodes_taken (2 ^ d) (omega arith), taken_le w d (2 ^ d) x)
+
+  pub nodes_recorded : length x ≤ 4096 → All (Recording 2) nodes
+  nodes_recorded few =
+      All-from_get_or (Recording 2) nodes [] (λ p h. subst (Recording 2) (sym (filed.each p (omega (arith, filed.keys)))) (node_recorded w d p x few))
+
+  pub nodes_level : (f : List ℕ → List Bool) → gather (length nodes) (λ p. f (get_or nodes p [])) ≡ level w d f x
+  nodes_level f = ap (λ n. gather n (λ p. f (get_or nodes p []))) filed.keys ∙ gather_same (2 ^ d) (λ p. f (get_or nodes p [])) (λ p. f (node w d p x)) (λ p h. ap f (filed.each p h))
+
+-- BITS PART BY PART
 
 -- one more part gathered behind the others
 pub gathered : (g : ℕ → List Bool) (k : ℕ) (t₀ t₁ part : List ℕ) (n₁ n₂ q : ℕ) → Written (gather k g) t₀ n₁ t₁ → Written (g k) (take q (drop n₁ t₁)) n₂ part → length part ≡ length (take q (drop n₁ t₁)) → Written (gather (k + 1) g) t₀ (n₁ + n₂) (put_mid n₁ q t₁ part)

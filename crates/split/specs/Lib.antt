@@ -1,4 +1,3 @@
 pub mod SplitRule
-pub mod Scratch
 pub mod SplitEven
 pub mod Halving

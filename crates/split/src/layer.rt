@@ -1,16 +1,20 @@
 //! The split layer over any coin extractor: nodes, levels, and the bits of all levels.
-ghost use Rattle.std.specs.Prelude.{◌≡◌, ◌*◌, ◌<◌, ◌≤◌, length, vec_items};
-ghost use Rattle.classes.specs.Recordings.{Recording, width as width_of};
-ghost use Rattle.extractors.specs.Piles.Pile.{bare};
-ghost use Rattle.split.specs.Scratch.{Listed};
+ghost use Rattle.std.specs.Prelude.{◌*◌, ◌^◌, ◌<◌, ◌≤◌, [], IfOk, get_or, length};
+ghost use Rattle.std.specs.List.{All, sum_by};
+ghost use Rattle.classes.specs.Recordings.{Codes, Recording, Sized, width as width_of};
+ghost use Rattle.extractors.specs.Bits.{gather};
 ghost use Rattle.extractors.specs.Calls.{Filled};
-ghost use Rattle.split.specs.SplitRule.{level, node, split};
+ghost use Rattle.extractors.specs.Piles.Pile.{bare};
+ghost use Rattle.extractors.specs.Rows.{Filed};
+ghost use Rattle.split.specs.SplitRule.{node, split};
 ghost use Rattle.split.specs.SplitEven.{split_even};
 
 use extractors::fault::ExtractorFault;
 use extractors::interface::{CoinExtractor, SymbolExtractor};
-use extractors::judge::{judge, width};
-use std::alloc::Global;
+use extractors::judge::width;
+use extractors::rows::Rows;
+use extractors::scratch::extract_by;
+use std::alloc::{AllocError, Global};
 
 /// Writes each code in bits, highest first, and hands the next bits after each prefix to the coin extractor below.
 #[derive(Drop)]
@@ -18,82 +22,65 @@ pub struct Split<E> {
     pub below: E,
 }
 
-/// The next bit of every code whose first `d` bits of `w` are `lead`, in order.
-fn next_bits(
-    heap: Global,
-    w: usize,
-    d: usize,
-    lead: u8,
-    codes: &[u8],
-) -> Result<Vec<u8>, ExtractorFault>
+/// Files the next bit of each code under its first `d` bits of `w`: the node of each prefix.
+fn file_bits(heap: Global, w: usize, d: usize, codes: &[u8]) -> Result<Rows, AllocError>
     requires deep { d < w }
     requires narrow { w ≤ 4 }
-    ensures { Listed vec_items (node w d lead codes.now) result }
+    requires coded { Codes (2 ^ w) codes.now }
+    ensures { IfOk result (Filed (2 ^ d) (node w d) codes.now) }
 {
-    let mut bits = Vec::new(heap);
+    let mut nodes = Rows::new(heap, 1 << d)?;
     for code in codes {
-        if *code >> (w - d) == lead {
-            bits.push((*code >> (w - d - 1)) % 2)?;
+        let lead = *code >> (w - d);
+        nodes.file(usize::from(lead), (*code >> (w - d - 1)) % 2)?;
+    }
+    Ok(nodes)
+}
+
+impl<E: CoinExtractor> Split<E> {
+    /// Writes the bits of the nodes of one level to the front of `out`, and answers their number.
+    fn fill_level(
+        &self,
+        heap: Global,
+        nodes: &Rows,
+        out: &mut [u8],
+    ) -> Result<usize, ExtractorFault>
+        requires coins { All (Recording 2) nodes.now }
+        requires room { sum_by length nodes.now ≤ length out.old }
+        ensures { Filled (gather (length nodes.now) (λ p. E.CoinExtractor.gives self.now.below (get_or nodes.now p []))) out.old result out.new }
+    {
+        let mut at = 0;
+        // An iterator on `Rows` would be a type more, with its laws, for this loop alone.
+        for lead in 0..nodes.len() {
+            let coins = nodes.row(lead);
+            let part = &mut out[at..at + coins.len()];
+            at += self.below.extract(heap, coins, part)?;
         }
+        Ok(at)
     }
-    Ok(bits)
-}
 
-/// Writes the bits of coins that nothing refuses to the front of `out`, and answers their number.
-fn fill_node<E: CoinExtractor>(
-    below: &E,
-    heap: Global,
-    coins: &[u8],
-    out: &mut [u8],
-) -> Result<usize, ExtractorFault>
-    requires coins { Recording 2 coins.now }
-    requires room { length coins.now ≤ length out.old }
-    ensures { Filled (E.CoinExtractor.gives below.now coins.now) out.old result out.new }
-{
-    below.extract(heap, coins, out)
-}
-
-/// Writes the bits of the nodes with prefixes of `d` bits to the front of `out`, and answers their number.
-fn fill_level<E: CoinExtractor>(
-    below: &E,
-    heap: Global,
-    w: usize,
-    d: usize,
-    codes: &[u8],
-    out: &mut [u8],
-) -> Result<usize, ExtractorFault>
-    requires deep { d < w }
-    requires narrow { w ≤ 4 }
-    requires few { length codes.now ≤ 4096 }
-    requires room { length codes.now ≤ length out.old }
-    ensures { Filled (level w d (E.CoinExtractor.gives below.now) codes.now) out.old result out.new }
-{
-    let mut at = 0;
-    for lead in 0..1u8 << d {
-        let coins = next_bits(heap, w, d, lead, codes)?;
-        at += fill_node(below, heap, &coins, &mut out[at..at + coins.len()])?;
+    // What is passed on is what the interface passes, so no struct holds it.
+    /// Writes the bits of all levels to the front of `out`, and answers their number.
+    fn fill(
+        &self,
+        heap: Global,
+        size: u8,
+        codes: &[u8],
+        out: &mut [u8],
+    ) -> Result<usize, ExtractorFault>
+        requires sized { Sized size }
+        requires recorded { Recording size codes.now }
+        requires room { width_of size * length codes.now ≤ length out.old }
+        ensures { Filled (split (width_of size) (E.CoinExtractor.gives self.now.below) codes.now) out.old result out.new }
+    {
+        let w = width(size);
+        let mut at = 0;
+        for d in 0..w {
+            let nodes = file_bits(heap, w, d, codes)?;
+            at += self.fill_level(heap, &nodes, &mut out[at..at + codes.len()])?;
+        }
+        Ok(at)
     }
-    Ok(at)
-}
-
-/// Writes the bits of all nodes to the front of `out`, and answers their number.
-fn fill<E: CoinExtractor>(
-    below: &E,
-    heap: Global,
-    w: usize,
-    codes: &[u8],
-    out: &mut [u8],
-) -> Result<usize, ExtractorFault>
-    requires narrow { w ≤ 4 }
-    requires few { length codes.now ≤ 4096 }
-    requires room { w * length codes.now ≤ length out.old }
-    ensures { Filled (split w (E.CoinExtractor.gives below.now) codes.now) out.old result out.new }
-{
-    let mut at = 0;
-    for d in 0..w {
-        at += fill_level(below, heap, w, d, codes, &mut out[at..at + codes.len()])?;
-    }
-    Ok(at)
 }
 
 impl<E: CoinExtractor> SymbolExtractor for Split<E> {
@@ -101,6 +88,7 @@ impl<E: CoinExtractor> SymbolExtractor for Split<E> {
 
     ghost lawful = { λ e m sized. split_even m (E.CoinExtractor.gives e.below) sized (E.CoinExtractor.even e.below) };
 
+    // Reads as the Blum layer's: a trait that both would fill by is no plainer than these two calls.
     fn extract(
         &self,
         heap: Global,
@@ -108,11 +96,8 @@ impl<E: CoinExtractor> SymbolExtractor for Split<E> {
         recording: &[u8],
         tray: &mut [u8],
     ) -> Result<usize, ExtractorFault> {
-        judge(size, recording, tray.len())?;
-        let w = width(size);
-        let mut scratch = vec![in heap; 0u8; w * recording.len()]?;
-        let n = fill(&self.below, heap, w, recording, &mut scratch)?;
-        tray[0..n].copy_from_slice(&scratch[0..n]);
-        Ok(n)
+        extract_by(heap, size, recording, tray, |scratch| {
+            self.fill(heap, size, recording, scratch)
+        })
     }
 }

@@ -10,7 +10,7 @@ use extractors::pairs::Pairs;
 use std::alloc::Global;
 use std::test::Fail;
 
-/// The pairs of coins: a ground for these tests.
+/// The pairs of coins, for the layer of these tests to stand on.
 #[derive(Clone, Copy)]
 struct CoinPairs;
 

@@ -1,4 +1,2 @@
-pub mod Letters
 pub mod PilesOfLayers
-pub mod ByBase
 pub mod Worked

@@ -1,3 +1,4 @@
 pub mod Towers
 pub mod EveryPile
+pub mod TowersEven
 pub mod Examples

@@ -2,6 +2,7 @@
 #![tactic(auto)]
 
 pub mod examples;
+pub mod extract;
 pub mod feed;
 #[cfg(test)]
 mod tests;

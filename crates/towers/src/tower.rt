@@ -1,6 +1,6 @@
 //! The towers that an entry may name, each with its letter.
-ghost use Rattle.std.specs.Prelude.{◌≡◌, true, false, Some};
-ghost use Rattle.towers.specs.Towers.{base_letter, base_of, capital_of, tower_letter, tower_of};
+ghost use Rattle.std.specs.Prelude.{◌≡◌, false, Some};
+ghost use Rattle.towers.specs.Towers.{base_letter, base_of, tower_letter, tower_of};
 
 /// What a tower stands on.
 #[derive(Clone, Copy, PartialEq, Eq, Debug)]
@@ -22,6 +22,7 @@ pub enum Base {
 pub struct Tower {
     pub base: Base,
     /// Whether the Blum layer is on top.
+    // A bool is plainest: base and top are chosen apart, and each of the ten pairs is a tower.
     pub laned: bool,
 }
 
@@ -40,24 +41,8 @@ impl Base {
         }
     }
 
-    /// The base of a capital.
-    fn of_capital(letter: char) -> Option<Base>
-        ensures { result ≡ capital_of letter }
-    {
-        match letter {
-            'V' => Some(Base::Pairs),
-            'E' => Some(Base::Ranking),
-            'P' => Some(Base::Peres),
-            'Q' => Some(Base::PeresRanking),
-            'R' => Some(Base::CoinRanking),
-            _ => None,
-        }
-    }
-}
-
-impl Base {
     /// The small letter of the base.
-    fn small(self) -> char
+    fn letter(self) -> char
         ensures { result ≡ base_letter self false }
     {
         match self {
@@ -68,44 +53,32 @@ impl Base {
             Base::CoinRanking => 'r',
         }
     }
-
-    /// The capital of the base.
-    fn capital(self) -> char
-        ensures { result ≡ base_letter self true }
-    {
-        match self {
-            Base::Pairs => 'V',
-            Base::Ranking => 'E',
-            Base::Peres => 'P',
-            Base::PeresRanking => 'Q',
-            Base::CoinRanking => 'R',
-        }
-    }
 }
 
 impl Tower {
-    /// The tower of a tower letter.
+    /// The tower of a tower letter: a capital puts the Blum layer on top.
+    // No `TryFrom<char>` beside it: that would be a second way to the same tower.
     pub fn of(letter: char) -> Option<Tower>
         ensures { result ≡ tower_of letter }
     {
-        if let Some(base) = Base::of(letter) {
-            return Some(Tower { base, laned: false });
-        }
-        match Base::of_capital(letter) {
-            Some(base) => Some(Tower { base, laned: true }),
-            None => None,
-        }
+        let base = Base::of(letter.to_ascii_lowercase())?;
+        Some(Tower {
+            base,
+            laned: letter.is_ascii_uppercase(),
+        })
     }
 
     /// The letter of the tower, by which `of` finds it again.
+    // No `From<Tower>` for `char` beside it: that would be a second way to the same letter.
     pub fn letter(self) -> char
         ensures value { result ≡ tower_letter self }
         ensures found { tower_of result ≡ Some self }
     {
+        let small = self.base.letter();
         if self.laned {
-            self.base.capital()
+            small.to_ascii_uppercase()
         } else {
-            self.base.small()
+            small
         }
     }
 }

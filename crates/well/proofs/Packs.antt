@@ -1,9 +1,8 @@
 -- Packing and its inverse: what each byte is worth, that bytes fit, and that unpacking gives the bits back.
-use Rattle.std.proofs.Common.{◌≡◌, ℕ, zero, suc, ◌+◌, ◌*◌, ◌/◌, ◌%◌, ◌^◌, ◌<◌, ◌≤◌, Bool, true, false, eqb, List, [], ◌∷◌, ◌++◌, length, get_or, take, drop, set, sym, refl, ap, ◌∙◌, subst, ap₂, mod-eq_of_lt, mul_assoc, mul_comm, add-mul, pow-suc, arith, drop-drop, take-add, pow_mono}
+use Rattle.std.proofs.Common.{◌≡◌, ℕ, zero, suc, ◌+◌, ◌*◌, ◌/◌, ◌%◌, ◌^◌, ◌<◌, ◌≤◌, Bool, true, false, eqb, List, [], ◌∷◌, ◌++◌, length, take, drop, set, sym, refl, ap, ◌∙◌, ap₂, mod-eq_of_lt, mul_assoc, mul_comm, add-mul, pow-suc, arith, length-append, length-take, drop-drop, take-add, pow_mono}
 use native.Mathlib.Nat.{mul-add-mod_self_right}
 use mir.Val.{bool_byte}
-use Rattle.std.specs.List.{AllByRecursion}
-use Rattle.std.proofs.lemmas.List.{take_more, take_more_set, length_push, length-take-le, length-drop}
+use Rattle.std.proofs.lemmas.List.{take_more_set, length_push, length-take-le, length-drop}
 use Rattle.std.proofs.lemmas.Nat.{shr_high}
 use Rattle.well.specs.Packing.{value, packed, digits, unpacked}
 
@@ -11,25 +10,17 @@ pow_push : (bits : List Bool) (bit : Bool) → 2 ^ length (bits ++ bit ∷ []) �
 pow_push bits bit = ap (λ n. 2 ^ n) (let e = length_push bits bit in omega arith) ∙ pow-suc 2 (length bits)
 
 -- one more bit doubles what stands before it
-pub value_push : (bits : List Bool) (bit : Bool) → value (bits ++ bit ∷ []) ≡ value bits * 2 + bool_byte bit
+pub value_push : (bits : List Bool) (bit : Bool) → value (bits ++ bit ∷ []) ≡ 2 * value bits + bool_byte bit
 value_push [] true = refl
 value_push [] false = refl
 value_push (true ∷ bits) bit = omega (arith, pow_push bits bit, value_push bits bit)
 value_push (false ∷ bits) bit = value_push bits bit
-
--- the front of a byte's bits, one bit more
-pub value_more : (bits : List Bool) (i : ℕ) (d : Bool) → i < length bits → value (take (i + 1) bits) ≡ value (take i bits) * 2 + bool_byte (get_or bits i d)
-value_more bits i d h = ap value (take_more bits i d h) ∙ value_push (take i bits) (get_or bits i d)
 
 -- w bits write a number below 2 to the power w
 pub value_lt : (bits : List Bool) → value bits < 2 ^ length bits
 value_lt [] = omega arith
 value_lt (true ∷ bits) = omega (arith, value_lt bits, pow-suc 2 (length bits))
 value_lt (false ∷ bits) = omega (arith, value_lt bits, pow-suc 2 (length bits))
-
--- i bits write at most 2 to the power i, less one
-pub value_take_lt : (bits : List Bool) (i : ℕ) → i ≤ length bits → value (take i bits) < 2 ^ i
-value_take_lt bits i h = subst (λ n. value (take i bits) < 2 ^ n) (length-take-le i bits h) (value_lt (take i bits))
 
 -- a number above x and v, taken apart at the place w
 high_part : (h w v x : ℕ) → h * 2 ^ suc w + (x * 2 ^ w + v) ≡ (h * 2 + x) * 2 ^ w + v
@@ -75,12 +66,6 @@ unpacked_packed (suc k) bits h =
     ap₂ ◌++◌ (byte_digits bits (omega arith)) (unpacked_packed k (drop 8 bits) rest)
     ∙ sym (take-add 8 (8 * k) bits) ∙ ap (λ n. take n bits) s
 
--- every packed number fits a byte
-pub packed_below : (k : ℕ) (bits : List Bool) → 8 * k ≤ length bits → AllByRecursion (λ byte. byte < 256) (packed k bits)
-packed_below zero bits h = tt
-packed_below (suc k) bits h =
-    (value_take_lt bits 8 (omega arith), packed_below k (drop 8 bits) (simp length-drop (omega arith)))
-
 -- one byte more
 pub packed_more : (k : ℕ) (bits : List Bool) → packed (k + 1) bits ≡ packed k bits ++ value (take 8 (drop (8 * k) bits)) ∷ []
 packed_more zero bits = refl
@@ -91,26 +76,16 @@ packed_more (suc k) bits =
     (packed_more k (drop 8 bits)
     ∙ ap (λ z. packed k (drop 8 bits) ++ value (take 8 z) ∷ []) (drop-drop (8 * k) 8 bits ∙ ap (λ n. drop n bits) m))
 
-pub length_packed : (k : ℕ) (bits : List Bool) → length (packed k bits) ≡ k
-length_packed zero bits = refl
-length_packed (suc k) bits = ap suc (length_packed k (drop 8 bits))
+-- the next of eight bits, of which some are read, leaves the number within a byte
+pub next_fits : (done left rest bits : List Bool) (bit : Bool) → done ++ left ≡ take 8 bits → left ≡ bit ∷ rest → 2 * value done + bool_byte bit < 256
+next_fits done left rest bits bit whole next =
+    let read = done ++ bit ∷ [] in
+    let few : length read ≤ 8 = omega (arith, length_push done bit, length-append done left, ap length next, ap length whole, length-take 8 bits) in
+    omega (arith, value_push done bit, value_lt read, pow_mono {i = length read} {j = 8} few)
 
--- before its last bit, a byte's value can be doubled
-pub front_small : (bits : List Bool) (i : ℕ) → i < 8 → i ≤ length bits → value (take i bits) < 128
-front_small bits i lt h =
-    let m : 2 ^ i ≤ 2 ^ 7 = pow_mono {i = i} {j = 7} (omega arith) in omega (arith, value_take_lt bits i h)
-
-bit_small : (bit : Bool) → bool_byte bit < 2
-bit_small true = omega arith
-bit_small false = omega arith
-
--- a bit read as a number is below 2
-pub below_two : (bit : Bool) (n : ℕ) → n ≡ bool_byte bit → n < 2
-below_two bit n e = omega (arith, e, bit_small bit)
-
--- a key of which one byte more is written
-pub key_more : (key : List ℕ) (bits : List Bool) (i n byte : ℕ) → i < length key → n ≡ 8 → take i key ≡ packed i bits → byte ≡ value (take n (drop (8 * i) bits)) → take (i + 1) (set key i byte) ≡ packed (i + 1) bits
-key_more key bits i n byte lt e front worth =
+-- a key of which one byte more is written, from the bits that are left
+pub key_more : (key : List ℕ) (bits left : List Bool) (i byte : ℕ) → i < length key → take i key ≡ packed i bits → left ≡ drop (8 * i) bits → byte ≡ value (take 8 left) → take (i + 1) (set key i byte) ≡ packed (i + 1) bits
+key_more key bits left i byte lt front rest worth =
     take_more_set key i byte lt
-    ∙ ap₂ (λ s b. s ++ b ∷ []) front (worth ∙ ap (λ m. value (take m (drop (8 * i) bits))) e)
+    ∙ ap₂ (λ s b. s ++ b ∷ []) front (worth ∙ ap (λ z. value (take 8 z)) rest)
     ∙ sym (packed_more i bits)

@@ -1,7 +1,7 @@
 -- The table of a well's refusals: the number, the layer and the place of each case.
 --   refusal_of   the table; an extractor's fault stands in the extractor's table
 use Rattle.extractors.specs.declared.fault.Layer.TheVariants.{Well}
-use Rattle.extractors.specs.Faults.{Refusal}
+use Rattle.extractors.specs.declared.fault.Refusal.{Refusal}
 use Rattle.extractors.specs.Faults as extractor
 use Rattle.well.specs.declared.fault.WellFault.{WellFault}
 use Rattle.well.specs.declared.fault.WellFault.TheVariants.{Extractor, KeyLength, Poured, Full, Short, Mark, Excess}

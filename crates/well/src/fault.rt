@@ -1,9 +1,9 @@
-//! Why the well refuses a call, and the three figures that every fault shows: number, layer and place.
+//! Why the well refuses a call, and what each fault shows.
 ghost use Rattle.std.specs.Prelude.{◌≡◌};
 ghost use Rattle.well.specs.Faults.{refusal_of};
 ghost use Rattle.well.specs.declared.fault.WellFault.TheVariants.{Extractor};
 
-use extractors::fault::{ExtractorFault, Layer};
+use extractors::fault::{ExtractorFault, Fault, Layer, Refusal};
 
 /// Why a call on a well is refused; each case holds its place.
 #[derive(Clone, Copy, PartialEq, Eq, Debug)]
@@ -24,48 +24,29 @@ pub enum WellFault {
     Excess(u32),
 }
 
-impl WellFault {
-    /// The number under which the refusal is documented; an extractor's fault keeps its own.
-    pub fn number(&self) -> u8
-        ensures { result ≡ (refusal_of self.now).number }
-    {
-        match self {
-            WellFault::Extractor(fault) => fault.number(),
-            WellFault::KeyLength(_) => 6,
-            WellFault::Poured(_) => 20,
-            WellFault::Full(_) => 21,
-            WellFault::Short(_) => 22,
-            WellFault::Mark(_) => 23,
-            WellFault::Excess(_) => 24,
-        }
-    }
+impl Fault for WellFault {
+    ghost shows = { refusal_of };
 
-    /// The layer that refuses: the extractor below, or the well.
-    pub fn layer(&self) -> Layer
-        ensures { result ≡ (refusal_of self.now).layer }
-    {
-        match self {
-            WellFault::Extractor(fault) => fault.layer(),
-            _ => Layer::Well,
-        }
-    }
-
-    /// The place of the fault: a length, a number of bits or a mark, as its case says.
-    pub fn place(&self) -> usize
-        ensures { result ≡ (refusal_of self.now).place }
-    {
-        match *self {
-            WellFault::Extractor(fault) => fault.place(),
-            WellFault::KeyLength(bytes) => bytes,
-            WellFault::Poured(gain) => gain,
-            WellFault::Full(gain) => gain,
-            WellFault::Short(held) => held,
-            WellFault::Mark(mark) => mark as usize,
-            WellFault::Excess(bits) => bits as usize,
+    fn refusal(&self) -> Refusal {
+        let (number, place) = match *self {
+            WellFault::Extractor(fault) => return fault.refusal(),
+            WellFault::KeyLength(bytes) => (6, bytes),
+            WellFault::Poured(gain) => (20, gain),
+            WellFault::Full(gain) => (21, gain),
+            WellFault::Short(held) => (22, held),
+            // `usize` has no `From<u32>`; a `usize` has 64 bits, so the casts lose nothing.
+            WellFault::Mark(mark) => (23, mark as usize),
+            WellFault::Excess(bits) => (24, bits as usize),
+        };
+        Refusal {
+            number,
+            layer: Layer::Well,
+            place,
         }
     }
 }
 
+// The conversion is written by hand, since a derived one would not say what it gives.
 impl From<ExtractorFault> for WellFault {
     ghost from_gives = { λ e r. r ≡ Extractor e };
 

@@ -1,25 +1,20 @@
-//! Bits packed into the bytes of a key, the first bit as the highest of byte 0.
-ghost use Rattle.std.specs.Prelude.{◌≡◌, ◌*◌, ◌≤◌, length};
-ghost use Rattle.well.specs.Packing.{value, packed};
+//! Bits packed into the bytes of a key, the first bit as the highest of its byte.
+ghost use Rattle.std.specs.Prelude.{◌≡◌, ◌≤◌, take, drop};
+ghost use Rattle.std.specs.VecDeque.{deque_len, deque_capacity};
+ghost use Rattle.well.specs.Packing.{value};
 
-/// The byte that eight bits write, the first bit highest.
-pub(crate) fn pack_byte(bits: &[bool]) -> u8
-    requires { length bits.now ≡ 8 }
-    ensures { result ≡ value bits.now }
+use std::collections::VecDeque;
+
+/// Takes the first eight bits as a byte, the first bit highest.
+pub(crate) fn take_byte(bits: &mut VecDeque<bool>) -> u8
+    requires { 8 ≤ deque_len bits.old }
+    ensures byte { result ≡ value (take 8 bits.old.items) }
+    ensures rest { bits.new.items ≡ drop 8 bits.old.items }
+    ensures capacity { deque_capacity bits.new ≡ deque_capacity bits.old }
 {
-    let mut byte: u8 = 0;
-    for i in 0..bits.len() {
-        byte = byte * 2 + u8::from(bits[i]);
+    let mut byte = 0;
+    for bit in bits.drain(..8) {
+        byte = 2 * byte + u8::from(bit);
     }
     byte
-}
-
-/// Fills a key from the front of the bits, eight bits a byte.
-pub(crate) fn pack(bits: &[bool], key: &mut [u8])
-    requires { 8 * length key.old ≤ length bits.now }
-    ensures { key.new ≡ packed (length key.old) bits.now }
-{
-    for i in 0..key.len() {
-        key[i] = pack_byte(&bits[8 * i..8 * i + 8]);
-    }
 }

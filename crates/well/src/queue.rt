@@ -1,17 +1,18 @@
 //! The queue of held bits: its room is taken once, when it is made.
-ghost use Rattle.std.specs.Prelude.{◌≤◌, vec_len, vec_capacity};
+ghost use Rattle.std.specs.Prelude.{◌≤◌};
+ghost use Rattle.std.specs.VecDeque.{deque_len, deque_capacity};
+
+use std::collections::VecDeque;
 
 pub mod moves;
 
 /// The most bits that a queue holds.
 pub const ROOM: usize = 16_640;
 
-/// Bits in the order in which they came. Those before `start` are taken; the rest are held.
+/// The bits held, in the order in which they came.
 #[derive(Drop)]
 pub struct Queue {
-    bits: Vec<bool>,
-    start: usize,
-    ghost begun: { start ≤ vec_len bits },
-    ghost few: { vec_len bits ≤ 16640 },
-    ghost room: { 16640 ≤ vec_capacity bits },
+    bits: VecDeque<bool>,
+    ghost few: { deque_len bits ≤ 16640 },
+    ghost room: { 16640 ≤ deque_capacity bits },
 }

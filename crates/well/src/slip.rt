@@ -47,9 +47,9 @@ impl Slip {
         let Slip {
             mark: _,
             number: _,
-            bits: spent,
+            bits,
         } = self;
-        spent
+        bits
     }
 }
 

@@ -10,6 +10,7 @@ pub mod figures;
 /// The most bits that are poured into one well.
 pub const MOST_POURED: u32 = 16_777_216;
 
+// Contracts say `state well`: a model in its place is no plainer, since what a call does is said of states.
 /// A store of fair bits that deals keys, the oldest bits first, each bit once. Its mark, a number chosen by the maker,
 /// tells its slips from those of other wells.
 #[derive(Drop)]

@@ -1,19 +1,22 @@
 //! Short runs of the well and its parts on figures worked out by hand.
 use crate::fault::WellFault;
-use crate::key::pack_byte;
+use crate::key::take_byte;
 use crate::queue::{Queue, ROOM};
 use crate::slip::{Returned, Slip};
 use crate::store::Well;
 use crate::tray::Wipe;
-use extractors::fault::{ExtractorFault, Layer};
+use extractors::fault::{ExtractorFault, Fault, Layer};
 use extractors::pairs::Pairs;
 use std::alloc::Global;
+use std::collections::VecDeque;
 use std::test::Fail;
 
 #[test]
-fn first_bit_is_highest(rt: HostRuntime) {
+fn first_bit_is_highest(rt: HostRuntime) -> Result<(), Fail> {
     let bits = [false, true, true, false, false, false, true, true];
-    assert_eq!(rt; pack_byte(&bits), 0x63);
+    let mut bits = VecDeque::from_array(rt.alloc(), bits)?;
+    assert_eq!(rt; take_byte(&mut bits), 0x63);
+    Ok(())
 }
 
 #[test]
@@ -88,12 +91,9 @@ fn taken_bits_make_way(rt: HostRuntime) -> Result<(), Fail> {
 
 // Loads a slip that must be taken.
 fn settle(well: &mut Well, slip: Slip) -> Result<(), Fail> {
-    match well.load(slip) {
-        Ok(()) => Ok(()),
-        Err(Returned { slip, fault: _ }) => {
-            let _ = slip.spend();
-            Err(Fail::new("a slip was handed back"))
-        }
+    match refused(well, slip) {
+        None => Ok(()),
+        Some(_) => Err(Fail::new("a slip was handed back")),
     }
 }
 
@@ -164,13 +164,7 @@ fn a_refused_draw_leaves_the_key(rt: HostRuntime) -> Result<(), Fail> {
 
 // The fault of a draw; None where a key is dealt.
 fn drawn(well: &mut Well, key: &mut [u8]) -> Option<WellFault> {
-    match well.draw(key) {
-        Ok(slip) => {
-            let _ = slip.spend();
-            None
-        }
-        Err(fault) => Some(fault),
-    }
+    well.draw(key).map(Slip::spend).err()
 }
 
 #[test]

@@ -10,16 +10,7 @@ impl Drop for Wipe<'_> {
     fn drop(self)
         ensures { Zero self.exit.0.now }
     {
-        clear(self.tray);
-        let Wipe { tray: _ } = self;
-    }
-}
-
-// Zeroes every byte.
-fn clear(tray: &mut [u8])
-    ensures { Zero tray.new }
-{
-    for i in 0..tray.len() {
-        tray[i] = 0;
+        let Wipe { tray } = self;
+        tray.fill(0);
     }
 }

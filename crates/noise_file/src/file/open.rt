@@ -6,7 +6,8 @@ ghost use Rattle.noise_file.specs.Opened.{Accepted};
 ghost use Rattle.noise_file.specs.Entries.{Answered};
 
 use super::NoiseFile;
-use crate::contents::{entries_of, key_length_of, numbered};
+use crate::bodies::Bodies;
+use crate::contents::Contents;
 use crate::entry::Entry;
 use crate::fault::FileFault;
 use crate::judge::judge;
@@ -20,13 +21,23 @@ impl NoiseFile {
         Ok(NoiseFile { bytes })
     }
 
+    /// The bodies of the file, which was judged when it was opened.
+    fn bodies(&self) -> Bodies<'_>
+        ensures { result.contents.bytes.now ≡ self.now.bytes.items }
+    {
+        let contents = Contents {
+            bytes: self.bytes.as_slice(),
+        };
+        Bodies { contents }
+    }
+
     /// The number of entries, from 1 to 15.
     pub fn entries(&self) -> usize
         ensures value { result ≡ entries self.now.bytes.items }
         ensures low_bound { 1 ≤ result }
         ensures high_bound { result ≤ 15 }
     {
-        entries_of(self.bytes.as_slice())
+        self.bodies().contents.entries()
     }
 
     /// The length of a key in bytes, from 1 to 32.
@@ -35,13 +46,16 @@ impl NoiseFile {
         ensures low_bound { 1 ≤ result }
         ensures high_bound { result ≤ 32 }
     {
-        key_length_of(self.bytes.as_slice())
+        self.bodies().contents.key_length()
     }
 
     /// The entry of a number, which counts from 1.
     pub fn entry(&self, number: usize) -> Result<Entry<'_>, FileFault>
         ensures { Answered self.now.bytes.items number result }
     {
-        numbered(self.bytes.as_slice(), number)
+        if !(1..=self.entries()).contains(&number) {
+            return Err(FileFault::Number(number));
+        }
+        Ok(self.bodies().entry(number - 1))
     }
 }

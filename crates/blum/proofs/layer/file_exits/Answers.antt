@@ -1,53 +1,30 @@
--- A turn files the code after a visit at the end of what its row holds.
-use Rattle.std.proofs.Common.{◌∙◌, arith, length-set}
-use Rattle.blum.proofs.Rows.{file_place, file_next, file_end, file_all}
+-- A turn files the code after a visit in the lane of the state visited.
+use Rattle.std.proofs.Common.{◌<◌, [], replicate, refl, ap, ◌∙◌, arith}
+use Rattle.std.proofs.ByRecursion.{All-get_or}
+use Rattle.extractors.specs.Lanes.{lane}
+use Rattle.extractors.proofs.Filing.{file_first, file_none, file_all}
+use Rattle.blum.proofs.Loops.{exit_filed, at_end}
 use Rattle.blum.proofs.layer.file_exits.Goals as goal
+use Rattle.blum.proofs.layer.file_exits.Goals.{in-Some+in_ok-file, in_default}
 
-pub bounds-lengths-state : goal.bounds-lengths-state
-bounds-lengths-state c =
-    let p = file_place c.args.size c.args.recording.now c.loop-i.i c.loop-i.lengths c.loop-i.rows c.loop-i.invariant.2 c.if-i-n.true c.requires.recorded.0 in
-    omega (arith, p.0, c.requires.sized.1)
+pub file-requires : goal.file-requires
+file-requires c =
+    omega (arith, c.loop-i.invariant.keys, c.from-in-Some.ensures, All-get_or (λ b. b < c.args.size) c.args.recording.now c.loop-i.i 0 c.loop-i-test.true c.requires.0)
 
-pub overflow_add-rows-then-i-n : goal.overflow_add-rows-then-i-n
-overflow_add-rows-then-i-n c =
-    let p = file_place c.args.size c.args.recording.now c.loop-i.i c.loop-i.lengths c.loop-i.rows c.loop-i.invariant.2 c.if-i-n.true c.requires.recorded.0 in
-    omega (arith, p.2, c.requires.room)
-
-pub bounds-rows-state : goal.bounds-rows-state
-bounds-rows-state c =
-    let p = file_place c.args.size c.args.recording.now c.loop-i.i c.loop-i.lengths c.loop-i.rows c.loop-i.invariant.2 c.if-i-n.true c.requires.recorded.0 in
-    omega (arith, p.2, c.requires.room, c.loop-i.auto.rows)
-
-pub overflow_add-lengths : goal.overflow_add-lengths
-overflow_add-lengths c =
-    let p = file_place c.args.size c.args.recording.now c.loop-i.i c.loop-i.lengths c.loop-i.rows c.loop-i.invariant.2 c.if-i-n.true c.requires.recorded.0 in
-    omega (arith, p.1, c.if-i-n.true)
-
-pub bounds-lengths-state-then-i-n : goal.bounds-lengths-state-then-i-n
-bounds-lengths-state-then-i-n c =
-    let p = file_place c.args.size c.args.recording.now c.loop-i.i c.loop-i.lengths c.loop-i.rows c.loop-i.invariant.2 c.if-i-n.true c.requires.recorded.0 in
-    omega (arith, p.0, c.requires.sized.1)
+pub loop-i-init : goal.loop-i-init
+loop-i-init c = file_first c.args.size lane c.args.recording.now c.in_ok-lanes.lanes (c.in_ok-lanes.ensures ∙ ap (λ k. replicate k []) c.from.ensures)
 
 pub loop-i-preserved : goal.loop-i-preserved
 loop-i-preserved c =
-    let m = c.args.size in
     let x = c.args.recording.now in
     let i = c.loop-i.i in
-    elim c.if-i-n.branch [
-      | goal.then-i-n w ↦
-          rw (w.lengths-is, w.rows-is) (
-            omega (arith, w.if-i-n.true),
-            length-set _ _ _ ∙ c.loop-i.invariant.1,
-            file_next m x i c.loop-i.lengths c.loop-i.rows c.loop-i.invariant.2 w.if-i-n.true c.requires.recorded.0 (omega (arith, c.loop-i.invariant.1, c.requires.sized.1)) (omega (arith, c.requires.room, c.loop-i.auto.rows)),
-          )
-      | goal.else-i-n w ↦
-          rw (w.lengths-is, w.rows-is) (
-            omega (arith, c.loop-i-test.true),
-            c.loop-i.invariant.1,
-            file_end m x i c.loop-i.lengths c.loop-i.rows c.loop-i.invariant.2 c.loop-i-test.true w.if-i-n.false,
-          )
+    elim c.match-get.branch [
+      | in-Some+in_ok-file w ↦
+          let next = w.in-Some.ensures.lookup.3 in
+          let filed = w.lanes-is ∙ w.in_ok-file.ensures.filed in
+          exit_filed c.args.size x i c.loop-i.lanes c.loop-i.invariant c.requires.0 _ _ next.0 w.from-in-Some.ensures (next.1 0) c.match-get.lanes filed
+      | in_default w ↦ rw w.lanes-is (file_none c.args.size lane x i c.loop-i.lanes c.loop-i.invariant (λ s. at_end x s i c.loop-i-test.true w.in_default.ensures.lookup.3))
     ]
 
 pub returns : goal.returns
-returns c =
-    file_all c.args.size c.args.recording.now c.loop-i.i c.loop-i.lengths c.loop-i.rows c.loop-i.invariant.2 c.loop-i.invariant.0 c.loop-i-test.false (omega (arith, c.requires.room, c.loop-i.auto.rows))
+returns c = file_all c.args.size lane c.args.recording.now c.loop-i.i c.loop-i.lanes c.loop-i.invariant c.loop-i-test.false (λ s. refl)

@@ -1,7 +1,7 @@
--- The exits before i are filed.
-use Rattle.std.proofs.Common.{◌≡◌, ◌≤◌, length}
-use Rattle.blum.proofs.Rows.{Filing}
+-- The exits of the codes before i are filed.
+use Rattle.extractors.specs.Lanes.{lane}
+use Rattle.extractors.proofs.Filing.{Filing}
 use Rattle.blum.proofs.layer.file_exits.Given as goal
 
 abbrev pub invariant-loop-i : goal.invariant-loop-i
-invariant-loop-i l = (l.i ≤ length l.recording) × (length l.lengths ≡ 16) × Filing l.size l.recording l.i l.lengths l.rows
+invariant-loop-i l = Filing l.size lane l.recording l.i l.lanes

@@ -1,16 +1,13 @@
 -- Each turn deals one key more; the last finds too few bits.
-use Rattle.std.proofs.Common.{length, string_bytes, ◌∙◌}
-use Rattle.well.specs.View.{state}
 use Rattle.clean.proofs.Dealing.{one_more, all_dealt}
 use Rattle.clean.proofs.deal.deal_keys.Goals as goal
 
-pub loop-heap-preserved : goal.loop-heap-preserved
-loop-heap-preserved c =
-    one_more (length c.args.key.now) (length c.loop-heap.key) (state c.args.well.now) (string_bytes c.args.text.now) (string_bytes c.loop-heap.text) (string_bytes c.push_str.new.self) (state c.loop-heap.well) (state c.next_key.new.well) c.next_key.new.key c.as_str.result.now
-    c.loop-heap.auto.key c.loop-heap.invariant c.loop-heap-test.ensures c.in_ok-push_str.ensures.bytes (c.as_str.ensures.value ∙ c.in_ok-line.ensures)
+pub loop-key-preserved : goal.loop-key-preserved
+loop-key-preserved c =
+    one_more _ _ _ _ _ _ _ c.loop-key.key c.next_key.new.key c.next_key.result
+    c.loop-key-test.ensures.value c.loop-key.auto.key c.next_key.ensures c.in_ok-write.ensures.bytes c.loop-key.invariant
 
 pub returns : goal.returns
 returns c =
-    let none = c.loop-heap-test.ensures in
-    all_dealt (length c.args.key.now) (length c.loop-heap.key) (state c.args.well.now) (string_bytes c.args.text.now) (string_bytes c.loop-heap.text) (state c.loop-heap.well) (state c.next_key.new.well)
-    c.loop-heap.auto.key c.requires.some c.requires.few c.loop-heap.invariant none.0 none.2
+    all_dealt _ _ _ _ _ _ c.loop-key.key c.next_key.new.key c.next_key.result
+    c.loop-key-test.ensures.value c.loop-key.auto.key c.requires.some c.requires.few c.next_key.ensures c.loop-key.invariant

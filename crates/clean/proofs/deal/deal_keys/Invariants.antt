@@ -4,8 +4,8 @@ use Rattle.well.specs.View.{state}
 use Rattle.clean.proofs.Dealing.{Sofar}
 use Rattle.clean.proofs.deal.deal_keys.Given as goal
 
-abbrev pub invariant-loop-heap : goal.invariant-loop-heap
-invariant-loop-heap l = Sofar (length l.initial.key) (state l.initial.well) (string_bytes l.initial.text) (string_bytes l.text) (state l.well)
+abbrev pub invariant-loop-key : goal.invariant-loop-key
+invariant-loop-key l = Sofar (length l.initial.key) (state l.initial.well) (string_bytes l.initial.text) (string_bytes l.text) (state l.well)
 
-abbrev pub decreases-loop-heap : goal.decreases-loop-heap
-decreases-loop-heap l = length (state l.well).queue
+abbrev pub decreases-loop-key : goal.decreases-loop-key
+decreases-loop-key l = length (state l.well).queue

@@ -1,5 +1,5 @@
 -- The room is the bound on every yield of a recording that is not too long.
-use Rattle.std.proofs.Common.{◌≡◌, ℕ, ◌-◌, ◌*◌, ◌^◌, ◌≤◌, min, Bool, List, length, sym, ap, ◌∙◌, subst, mul-le-mul, arith}
+use Rattle.std.proofs.Common.{◌≡◌, ℕ, ◌-◌, ◌*◌, ◌^◌, ◌≤◌, min, Bool, List, length, sym, subst, mul-le-mul, arith}
 use Rattle.classes.specs.Recordings.{Sized, Recording, width}
 use Rattle.classes.specs.Evenness.{Even}
 use Rattle.classes.proofs.Yields.{yield_bound}
@@ -13,10 +13,5 @@ within m n w r wide most is sized f even x rec long =
     let small : w * n ≤ 4 * 4096 = mul-le-mul most few in
     omega arith
 
-pub returns : goal.returns
-returns c =
-    let w = c.width.ensures in
-    record {
-      bytes = c.saturating_mul.ensures ∙ ap (λ v. min (v * c.args.n) (2 ^ 64 - 1)) w.value;
-      suffices = within c.args.size c.args.n c.width.result c.saturating_mul.result w.value w.most c.saturating_mul.ensures;
-    }
+pub returns-clause-suffices : goal.returns-clause-suffices
+returns-clause-suffices c = within c.args.size c.args.n c.width.result c.saturating_mul.result c.width.ensures.value c.width.ensures.most c.saturating_mul.ensures

@@ -1,12 +1,7 @@
--- The bits of the codes passed stand at the front of the tray, and the rest is as it was.
-use Rattle.std.proofs.Common.{◌≡◌, ◌-◌, ◌≤◌, ◌++◌, length, take, drop}
-use Rattle.extractors.specs.Bits.{bytes}
-use Rattle.extractors.specs.PairsRule.{pairs}
+-- The bits of the pairs so far stand at the front of the tray, and the rest is as it was.
+use Rattle.std.proofs.Common.{◌*◌, drop}
+use Rattle.extractors.proofs.Pairing.{Writing}
 use Rattle.extractors.proofs.pairs.write_pairs.Given as goal
 
-abbrev pub invariant-loop-i : goal.invariant-loop-i
-invariant-loop-i l =
-    (l.i ≤ length l.recording) × (l.k ≤ l.i) × (bytes (pairs l.recording) ≡ take l.k l.tray ++ bytes (pairs (drop l.i l.recording))) × (drop l.k l.tray ≡ drop l.k l.initial.tray)
-
-abbrev pub decreases-loop-i : goal.decreases-loop-i
-decreases-loop-i l = length l.recording - l.i
+abbrev pub invariant-loop-a : goal.invariant-loop-a
+invariant-loop-a l = Writing l.recording l.initial.tray (drop (2 * l.a-index) l.recording) l.given l.tray

@@ -1,30 +1,25 @@
 -- The parts are judged in the order of the rules.
-use Rattle.std.proofs.lemmas.Result.{err_from_is_err_and}
-use Rattle.noise_file.proofs.Files.{contents_fit, legible, judged, due_at_head, due_at_contents, due_at_end}
+use Rattle.noise_file.proofs.Files.{judged, due_at_head, due_at_contents, due_at_end}
+use Rattle.noise_file.proofs.Firsts.{climbs}
 use Rattle.noise_file.proofs.judge.judge.Goals as goal
 
-pub returns-in_err-judge_head : goal.returns-in_err-judge_head
-returns-in_err-judge_head c =
-    let p = err_from_is_err_and c.from_residual.result c.from_residual.ensures.1 in
-    rw (p.1, p.2) (record { due = due_at_head c.args.bytes.now c.in_err-judge_head.field-0.0 c.in_err-judge_head.ensures; accepted = tt })
+pub returns-in_err-judge_head-clause-due : goal.returns-in_err-judge_head-clause-due
+returns-in_err-judge_head-clause-due c = climbs _ _ _ c.from_residual.ensures.1 (due_at_head _ _ c.in_err-judge_head.ensures)
 
-pub returns-in_err-judge_contents : goal.returns-in_err-judge_contents
-returns-in_err-judge_contents c =
-    let p = err_from_is_err_and c.from_residual-in_err-judge_contents.result c.from_residual-in_err-judge_contents.ensures.1 in
-    rw (p.1, p.2) (record { due = due_at_contents c.args.bytes.now c.in_err-judge_contents.field-0.0 c.in_ok-judge_head.ensures c.in_err-judge_contents.ensures; accepted = tt })
+pub returns-in_err-contents-clause-due : goal.returns-in_err-contents-clause-due
+returns-in_err-contents-clause-due c = climbs _ _ _ c.from_residual-in_err-contents.ensures.1 (due_at_contents _ _ c.in_ok-judge_head.ensures c.in_err-contents.ensures)
 
-pub judge_end-requires : goal.judge_end-requires
-judge_end-requires c = contents_fit c.args.bytes.now c.in_ok-judge_contents.ensures
+pub returns-in_err-judge_lines-clause-due : goal.returns-in_err-judge_lines-clause-due
+returns-in_err-judge_lines-clause-due c =
+    climbs _ _ _ c.from_residual-in_err-judge_lines.ensures.1 (due_at_contents _ _ c.in_ok-judge_head.ensures (rw c.in_ok-contents.ensures at c.in_err-judge_lines.ensures))
 
-pub returns-in_err-judge_end : goal.returns-in_err-judge_end
-returns-in_err-judge_end c =
-    let p = err_from_is_err_and c.from_residual-in_err-judge_end.result c.from_residual-in_err-judge_end.ensures.1 in
-    rw (p.1, p.2) (record { due = due_at_end c.args.bytes.now c.in_err-judge_end.field-0.0 c.in_ok-judge_head.ensures c.in_ok-judge_contents.ensures c.in_err-judge_end.ensures; accepted = tt })
-
-pub judge_letters-requires : goal.judge_letters-requires
-judge_letters-requires c = record { legible = legible c.args.bytes.now c.in_ok-judge_contents.ensures c.in_ok-judge_end.ensures; contents = contents_fit c.args.bytes.now c.in_ok-judge_contents.ensures }
+pub returns-in_err-judge_end-clause-due : goal.returns-in_err-judge_end-clause-due
+returns-in_err-judge_end-clause-due c =
+    climbs _ _ _ c.from_residual-in_err-judge_end.ensures.1
+    (due_at_end _ _ c.in_ok-judge_head.ensures (rw c.in_ok-contents.ensures at c.in_ok-judge_lines.ensures) (rw c.in_ok-contents.ensures at c.in_err-judge_end.ensures))
 
 pub returns : goal.returns
 returns c =
-    let j = judged c.args.bytes.now c.judge_letters.result c.in_ok-judge_head.ensures c.in_ok-judge_contents.ensures c.in_ok-judge_end.ensures c.judge_letters.ensures in
+    let same = c.in_ok-contents.ensures in
+    let j = judged c.args.bytes.now c.judge_letters.result c.in_ok-judge_head.ensures (rw same at c.in_ok-judge_lines.ensures) (rw same at c.in_ok-judge_end.ensures) (rw same at c.judge_letters.ensures) in
     record { due = j.0; accepted = j.1 }

@@ -1,36 +1,29 @@
--- A turn reads one pair; when fewer than two codes are left, all pairs are read.
-use Rattle.std.proofs.Common.{◌≡◌, ℕ, ◌+◌, ◌≤◌, ltb, [], ◌∷◌, ◌++◌, length, get_or, vec_items, sym, ap, ◌∙◌, arith, le-ltb, lt-ltb, eq-eqb, ne_eqb}
-use Rattle.std.proofs.lemmas.Bool.{cond-true, cond-false}
-use Rattle.extractors.specs.Bits.{byte}
-use Rattle.peres.specs.Pairwise.{flag, reading_same, reading_other, reading_all}
+-- A turn reads one pair; behind the last one no pair is left.
+use Rattle.std.proofs.Common.{◌+◌, ◌*◌, [], ◌∷◌, ◌++◌, get_or, drop, vec_items, ap, ◌∙◌, subst, arith, length-drop}
+use Rattle.extractors.proofs.Pairing.{pair_at, pairs_end}
+use Rattle.peres.specs.Pairwise.{Reading, reading_same, reading_other, reading_all}
 use Rattle.peres.proofs.parts.take_apart.Goals as goal
-use Rattle.peres.proofs.parts.take_apart.Goals.{then-a-b, else-a-b, then-a-b-2+in_ok-push-2, else-a-b-2, then-b-a, else-b-a}
+use Rattle.peres.proofs.parts.take_apart.Goals.{then-a-b+in_ok-push-2, else-a-b}
 
-pub loop-i-preserved : goal.loop-i-preserved
-loop-i-preserved c =
+pub loop-a-preserved : goal.loop-a-preserved
+loop-a-preserved c =
     let x = c.args.recording.now in
-    let i = c.loop-i.i in
-    let k = c.loop-i.k in
-    let u = vec_items c.loop-i.differing in
-    let v = vec_items c.loop-i.agreed in
-    let h : i + 2 ≤ length x = omega arith in
-    let flagged : c.if-a-b.push ≡ flag x i =
+    let pair = get_or c.as_chunks.result.0.now c.loop-a.a-index [] in
+    let rest = drop (2 * (c.loop-a.a-index + 1)) x in
+    let u = vec_items c.loop-a.differing in
+    let v = vec_items c.loop-a.agreed in
+    let read = pair_at x c.as_chunks.result.0.now c.as_chunks.ensures.front c.as_chunks.ensures.front_len c.loop-a.a-index c.loop-a-test.true in
+    let reading = subst (λ r. Reading x c.args.out.now r c.loop-a.given c.loop-a.out u v) read c.loop-a.invariant in
+    let differs = c.in_ok-push.ensures.items ∙ ap (λ z. u ++ (z ∷ [])) c.from.ensures in
     elim c.if-a-b.branch [
-      | then-a-b w ↦ w.push-is ∙ sym (cond-false {A = ℕ} _ 0 1 (ne_eqb _ _ w.if-a-b.true))
-      | else-a-b w ↦ w.push-is ∙ sym (cond-true {A = ℕ} _ 0 1 (eq-eqb _ _ w.if-a-b.false))
-    ] in
-    let differs = c.in_ok-push.ensures.items ∙ ap (λ z. u ++ (z ∷ [])) flagged in
-    elim c.if-a-b-2.branch [
-      | then-a-b-2+in_ok-push-2 w ↦
-          rw (w.out-is, w.k-is) (reading_same x c.args.out.now i k c.loop-i.out u v c.loop-i.invariant h w.if-a-b-2.true _ _ differs (ap vec_items w.agreed-is ∙ w.in_ok-push-2.ensures.items))
-      | else-a-b-2 w ↦
-          let bit : w.if-b-a.out ≡ byte (ltb (get_or x (i + 1) 0) (get_or x i 0)) =
-          elim w.if-b-a.branch [
-            | then-b-a w' ↦ w'.out-is ∙ ap byte (sym (lt-ltb _ _ w'.if-b-a.true))
-            | else-b-a w' ↦ w'.out-is ∙ ap byte (sym (le-ltb _ _ w'.if-b-a.false))
-          ] in
-          rw (w.out-is, w.k-is, w.agreed-is) (reading_other x c.args.out.now i k c.loop-i.out u v c.loop-i.invariant h w.if-a-b-2.false (omega arith) w.if-b-a.out bit _ differs)
+      | then-a-b+in_ok-push-2 t ↦
+          rw (t.out-is, t.given-is) (reading_same x c.args.out.now (get_or pair 0 0) (get_or pair 1 0) rest c.loop-a.given c.loop-a.out u v reading t.if-a-b.true _ _ differs (ap vec_items t.agreed-is ∙ t.in_ok-push-2.ensures.items))
+      | else-a-b t ↦
+          rw (t.out-is, t.given-is, t.agreed-is, t.from-else-a-b.ensures) (reading_other x c.args.out.now (get_or pair 0 0) (get_or pair 1 0) rest c.loop-a.given c.loop-a.out u v reading t.if-a-b.false (omega (arith, c.loop-a.invariant.bits.room, length-drop (2 * c.loop-a.a-index) x)) _ differs)
     ]
 
 pub returns : goal.returns
-returns c = reading_all c.args.recording.now c.args.out.now c.loop-i.i c.loop-i.k c.loop-i.out (vec_items c.loop-i.differing) (vec_items c.loop-i.agreed) c.loop-i.invariant c.loop-i-test.false (omega arith)
+returns c =
+    let x = c.args.recording.now in
+    let short = pairs_end x c.as_chunks.result.0.now c.as_chunks.ensures.front c.as_chunks.ensures.front_len c.loop-a.a-index c.loop-a-test.false in
+    reading_all x c.args.out.now (drop (2 * c.loop-a.a-index) x) c.loop-a.given c.loop-a.out (vec_items c.loop-a.differing) (vec_items c.loop-a.agreed) c.loop-a.invariant short (omega (arith, c.loop-a.invariant.bits.room))

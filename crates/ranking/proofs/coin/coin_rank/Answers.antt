@@ -1,45 +1,31 @@
--- A turn adds what a one adds to the rank.
-use Rattle.std.proofs.Common.{◌≡◌, ◌+◌, ◌-◌, length, sym, ap, ◌∙◌, ap₂, arith}
-use Rattle.std.proofs.lemmas.List.{at_drop_all}
-use Rattle.ranking.specs.Binomials.{choose}
-use Rattle.ranking.specs.Ranks.{rank}
-use Rattle.ranking.specs.CoinScan.{coin_size, coin_rank_fits, turn_one, turn_zero}
-use Rattle.ranking.proofs.coin.coin_rank.Goals.{then-coin-eq1, else-coin-eq1}
+-- A turn passes one coin more.
+use Rattle.std.proofs.Common.{◌∙◌, arith, inl}
+use Rattle.ranking.proofs.CoinPassing.{next_room, next_ones, next_one, next_rank_fits, next_zero, all_passed}
 use Rattle.ranking.proofs.coin.coin_rank.Goals as goal
+
+pub overflow_add-ones : goal.overflow_add-ones
+overflow_add-ones c =
+    let h = c.in-Some.ensures.steps in
+    let few = next_ones c.loop-later.invariant.2 c.requires.coins c.requires.short _ _ _ _ h.0 h.1 h.2 in
+    omega arith
 
 pub overflow_add-rank : goal.overflow_add-rank
 overflow_add-rank c =
-    let s = c.args.block.now in
-    let i = c.loop-coin.coin-index in
-    let k = turn_one s i (omega arith) c.requires.coins c.if-coin-eq1.true in
-    let u = coin_rank_fits s c.requires.coins c.requires.short in
-    let n : c.loop-coin.rest - 1 ≡ length s - (i + 1) = omega arith in
-    let e = ap₂ choose n c.loop-coin.invariant.1 in
+    let h = c.in-Some.ensures.steps in
+    let fits = next_rank_fits c.loop-later.invariant.2 c.requires.coins c.requires.short _ _ _ _ h.0 h.1 h.2 _ c.if-coin-eq1.true c.binomial-rank.ensures in
     omega arith
 
-pub overflow_sub-left : goal.overflow_sub-left
-overflow_sub-left c =
-    let k = turn_one c.args.block.now c.loop-coin.coin-index (omega arith) c.requires.coins c.if-coin-eq1.true in
-    omega arith
+pub loop-later-preserved-then-coin-eq1 : goal.loop-later-preserved-then-coin-eq1
+loop-later-preserved-then-coin-eq1 c =
+    let h = c.in-Some.ensures.steps in
+    let room = next_room c.loop-later.invariant.2 c.requires.coins c.requires.short _ _ _ _ h.0 h.1 h.2 in
+    ((tt, tt, inl (omega arith)), tt, next_one c.loop-later.invariant.2 c.requires.coins c.requires.short _ _ _ _ h.0 h.1 h.2 _ c.if-coin-eq1.true c.binomial-rank.ensures)
 
-pub loop-coin-preserved : goal.loop-coin-preserved
-loop-coin-preserved c =
-    let s = c.args.block.now in
-    let i = c.loop-coin.coin-index in
-    elim c.if-coin-eq1.branch [
-      | then-coin-eq1 w ↦
-          let k = turn_one s i (omega arith) c.requires.coins w.if-coin-eq1.true in
-          let n : c.loop-coin.rest - 1 ≡ length s - (i + 1) = omega arith in
-          let e = ap₂ choose n c.loop-coin.invariant.1 in
-          omega arith
-      | else-coin-eq1 w ↦ let k = turn_zero s i (omega arith) c.requires.coins w.if-coin-eq1.false in omega arith
-    ]
+pub loop-later-preserved : goal.loop-later-preserved
+loop-later-preserved c =
+    let h = c.in-Some.ensures.steps in
+    let room = next_room c.loop-later.invariant.2 c.requires.coins c.requires.short _ _ _ _ h.0 h.1 h.2 in
+    ((tt, tt, inl (omega arith)), tt, next_zero c.loop-later.invariant.2 c.requires.coins c.requires.short _ _ _ _ h.0 h.1 h.2 c.if-coin-eq1.false)
 
-pub returns : goal.returns
-returns c =
-    let s = c.args.block.now in
-    let e = at_drop_all (rank 2) s c.loop-coin.coin-index (omega arith) in
-    record {
-      ranked = omega arith;
-      sized = c.binomial-size.ensures ∙ ap (choose (length s)) c.ones-left.ensures ∙ sym (coin_size s c.requires.coins);
-    }
+pub returns-clause-sized : goal.returns-clause-sized
+returns-clause-sized c = c.binomial.ensures ∙ (all_passed c.loop-later.invariant.2 c.in-None.ensures.steps.0.0 c.requires.coins).1

@@ -1,11 +1,11 @@
--- The rank so far and the rank of the rest are the rank.
-use Rattle.std.proofs.Common.{◌≡◌, ◌+◌, length, drop}
-use Rattle.classes.specs.Recordings.{count}
-use Rattle.ranking.specs.Ranks.{rank}
+-- The coins passed so far, from the last, with their ones and their rank.
+use Rattle.std.specs.Iterator.Adapters.{enumerate_source, enumerate_count, rev_source}
+use Rattle.std.specs.Slice.Iter.{iter_rest}
+use Rattle.ranking.proofs.CoinPassing.{Passing}
 use Rattle.ranking.proofs.coin.coin_rank.Given as goal
 
-abbrev pub invariant-loop-coin : goal.invariant-loop-coin
-invariant-loop-coin l =
-    (l.rest + l.coin-index ≡ length l.block)
-    × (l.left ≡ count 1 (drop l.coin-index l.block))
-    × (l.rank + rank 2 (drop l.coin-index l.block) ≡ rank 2 l.block)
+abbrev pub invariant-loop-later : goal.invariant-loop-later
+invariant-loop-later l =
+    (goal.iterator-loop-later).can_next l.later-iterator
+    × (goal.iterator-loop-later).is_finite l.later-iterator
+    × Passing l.block (iter_rest (rev_source (enumerate_source l.later-iterator))) (enumerate_count l.later-iterator) l.ones l.rank

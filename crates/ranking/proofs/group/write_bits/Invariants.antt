@@ -1,11 +1,8 @@
--- What is written and the bits left are all the bits; what lies behind is as it was.
-use Rattle.std.proofs.Common.{◌≡◌, ◌+◌, ◌++◌, take, drop}
+-- The bits so far are those of the position.
+use Rattle.std.proofs.Common.{◌≡◌, ℕ, ◌<◌, length, get_or}
 use Rattle.extractors.specs.Bits.{bytes}
 use Rattle.ranking.specs.Groups.{in_bits}
 use Rattle.ranking.proofs.group.write_bits.Given as goal
 
 abbrev pub invariant-loop-i : goal.invariant-loop-i
-invariant-loop-i l =
-    (l.i + l.k ≡ l.a)
-    × (bytes (in_bits l.a l.position) ≡ take l.i l.tray ++ bytes (in_bits l.k l.left))
-    × (drop l.a l.tray ≡ drop l.a l.initial.tray)
+invariant-loop-i l = (k : ℕ) → k < l.i → get_or l.bits k 0 ≡ get_or (bytes (in_bits (length l.initial.bits) l.position)) k 0

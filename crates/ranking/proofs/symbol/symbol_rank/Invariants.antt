@@ -1,14 +1,11 @@
--- The counts, the length, the arrangements and the rank of what the scan has passed.
-use Rattle.std.proofs.Common.{◌≡◌, ℕ, ◌<◌, length, get_or, drop, sum}
-use Rattle.classes.specs.Recordings.{count}
-use Rattle.ranking.specs.Ranks.{class_size, rank}
+-- The codes passed so far, from the last, with their counts, their arrangements and their rank.
+use Rattle.std.specs.Iterator.Adapters.{enumerate_source, enumerate_count, rev_source}
+use Rattle.std.specs.Slice.Iter.{iter_rest}
+use Rattle.ranking.proofs.SymbolPassing.{Passing}
 use Rattle.ranking.proofs.symbol.symbol_rank.Given as goal
 
-abbrev pub invariant-loop-i : goal.invariant-loop-i
-invariant-loop-i l =
-    (length l.counts ≡ 16)
-    × ((c : ℕ) → c < length l.counts → get_or l.counts c 0 ≡ count c (drop l.i l.block))
-    × (sum l.counts ≡ l.rest)
-    × (l.rest ≡ length (drop l.i l.block))
-    × (l.arrangements ≡ class_size l.size (drop l.i l.block))
-    × (l.rank ≡ rank l.size (drop l.i l.block))
+abbrev pub invariant-loop-later : goal.invariant-loop-later
+invariant-loop-later l =
+    (goal.iterator-loop-later).can_next l.later-iterator
+    × (goal.iterator-loop-later).is_finite l.later-iterator
+    × Passing l.size l.block (iter_rest (rev_source (enumerate_source l.later-iterator))) (enumerate_count l.later-iterator) l.counts l.arrangements l.rank

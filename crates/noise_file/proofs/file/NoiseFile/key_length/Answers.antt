@@ -2,5 +2,8 @@
 use Rattle.noise_file.proofs.Files.{open_accepted}
 use Rattle.noise_file.proofs.file.NoiseFile.key_length.Goals as goal
 
-pub key_length_of-requires : goal.key_length_of-requires
-key_length_of-requires c = simp c.as_slice.ensures.value (open_accepted _ c.args.self.now.opened)
+pub returns-clause-low_bound : goal.returns-clause-low_bound
+returns-clause-low_bound c = rw (c.key_length.ensures, c.bodies.ensures) (open_accepted _ c.args.self.now.opened).some_key
+
+pub returns-clause-high_bound : goal.returns-clause-high_bound
+returns-clause-high_bound c = rw (c.key_length.ensures, c.bodies.ensures) (open_accepted _ c.args.self.now.opened).short_key

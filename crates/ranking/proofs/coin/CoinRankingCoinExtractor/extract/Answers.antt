@@ -1,10 +1,7 @@
 -- What the judge accepts are coins with room for their bits.
-use Rattle.std.proofs.Common.{◌≤◌, length, arith}
+use Rattle.std.proofs.Common.{length}
 use Rattle.extractors.proofs.Judging.{sound}
 use Rattle.ranking.proofs.coin.CoinRankingCoinExtractor.extract.Goals as goal
 
-pub write_blocks-requires : goal.write_blocks-requires
-write_blocks-requires c =
-    let s = sound 2 c.args.recording.now (length c.args.tray.now) c.in_ok-judge.ensures in
-    let least : 2 ≤ c.args.self.now.block = c.args.self.now.least in
-    record { some = omega arith; short = c.args.self.now.greatest; coins = s.recording.0; room = omega (arith, s.room) }
+pub write_blocks-requires-clause-codes : goal.write_blocks-requires-clause-codes
+write_blocks-requires-clause-codes c = (sound 2 c.args.recording.now (length c.args.tray.now) c.in_ok-judge.ensures).recording.0

@@ -1,47 +1,20 @@
--- The oldest bits go to the key, and the start moves past them.
-use Rattle.std.proofs.Common.{◌≡◌, ◌-◌, ◌*◌, length, take, drop, vec_items, sym, ap, ◌∙◌, arith, length-drop}
-use Rattle.std.proofs.lemmas.List.{length-take, take_rest, drop-drop}
+-- One byte more is packed from the bits left; unpacking the whole key gives its bits back.
+use Rattle.std.proofs.Common.{◌*◌, drop, ap, ◌∙◌, arith}
+use Rattle.std.proofs.lemmas.Grind.{common_steps}
+use Rattle.std.proofs.lemmas.List.{drop-drop}
 use Rattle.well.specs.Held.{held}
-use Rattle.well.specs.Packing.{packed, unpacked}
-use Rattle.well.proofs.Packs.{unpacked_packed}
+use Rattle.well.proofs.Packs.{key_more, unpacked_packed}
 use Rattle.well.proofs.queue.Queue.take_front.Goals as goal
 
-pub overflow_mul-next : goal.overflow_mul-next
-overflow_mul-next c =
-    let n = c.args.self.now.bits.ok.0 in
-    omega (arith, length-drop c.args.self.now.start (vec_items c.args.self.now.bits))
+pub loop-byte-preserved : goal.loop-byte-preserved
+loop-byte-preserved c =
+    let i = c.loop-byte.byte-index in
+    let h = c.loop-byte.invariant in
+    let all = held c.args.self.now in
+    let left = held c.loop-byte.self in (
+      key_more c.loop-byte.key all left i c.take_byte.result (omega arith) h.0 h.1 c.take_byte.ensures.byte,
+      c.take_byte.ensures.rest ∙ ap (drop 8) h.1 ∙ drop-drop 8 (8 * i) all ∙ ap (λ n. drop n all) (omega arith),
+    )
 
-pub overflow_add-next : goal.overflow_add-next
-overflow_add-next c =
-    let n = c.args.self.now.bits.ok.0 in
-    omega (arith, length-drop c.args.self.now.start (vec_items c.args.self.now.bits))
-
-pub pack-requires : goal.pack-requires
-pack-requires c =
-    let n = c.args.self.now.bits.ok.0 in
-    let m = c.as_slice.ensures.len in
-    let p = length-drop c.args.self.now.start (vec_items c.args.self.now.bits) in
-    simp (length-take, length-drop) (omega arith)
-
-pub invariant_of-self : goal.invariant_of-self
-invariant_of-self c =
-    let n = c.args.self.now.bits.ok.0 in
-    record {
-      begun = omega (arith, length-drop c.args.self.now.start (vec_items c.args.self.now.bits));
-      few = c.args.self.now.few;
-      room = c.args.self.now.room;
-    }
-
-pub returns : goal.returns
-returns c =
-    let start = c.args.self.now.start in
-    let k = length c.args.key.now in
-    let s = c.as_slice.result.now in
-    let old = held c.args.self.now in
-    let view : take (length s - start) (drop start s) ≡ old = take_rest s start ∙ ap (drop start) c.as_slice.ensures.value in
-    let full : c.pack.new.key ≡ packed k old = c.pack.ensures ∙ ap (packed k) view in
-    record {
-      filled = full;
-      oldest_first = ap unpacked full ∙ unpacked_packed k old c.requires;
-      rest = sym (drop-drop (8 * k) start (vec_items c.args.self.now.bits));
-    }
+pub returns-clause-oldest_first : goal.returns-clause-oldest_first
+returns-clause-oldest_first c = grind (arith, common_steps, unpacked_packed)

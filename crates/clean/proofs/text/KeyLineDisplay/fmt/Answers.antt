@@ -1,0 +1,11 @@
+-- Each turn writes the two digits of one byte.
+use Rattle.std.proofs.Common.{rules}
+use Rattle.std.proofs.Output.{has_written_append, has_written_of_eq}
+use Rattle.clean.proofs.Hexes.{hexes_more}
+use Rattle.clean.proofs.text.KeyLineDisplay.fmt.Goals as goal
+
+pub loop-byte-preserved : goal.loop-byte-preserved
+loop-byte-preserved g c p =
+    has_written_of_eq _ _ _ _ _
+    (hexes_more c.args.self.now.0.now c.loop-byte.byte-index c.loop-byte-test.true (search rules))
+    (has_written_append _ _ _ _ _ _ (c.loop-byte.invariant p) (search rules))

@@ -1,8 +1,0 @@
--- Each body so far is of its kind.
-use Rattle.std.proofs.Common.{◌≡◌, None}
-use Rattle.noise_file.specs.First.{first_over}
-use Rattle.noise_file.specs.Rules.{body_due}
-use Rattle.noise_file.proofs.judge.judge_letters.Given as goal
-
-abbrev pub invariant-loop-i : goal.invariant-loop-i
-invariant-loop-i l = first_over l.i (body_due l.bytes) ≡ None
