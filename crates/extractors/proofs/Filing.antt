@@ -1,19 +1,12 @@
 -- Rows as a loop that reads a recording fills them. Assumes nothing.
-use Rattle.std.proofs.Common.{◌≡◌, ℕ, ◌+◌, ◌<◌, ◌≤◌, List, [], ◌∷◌, ◌++◌, length, get_or, drop, set, replicate, sym, ap, ◌∙◌, subst, inl, inr, append_assoc, append-nil, arith, length-set}
-use Rattle.std.proofs.lemmas.List.{drop_all, get_or-set_same, get_or-set_other, length-replicate, get_or-replicate}
+use Rattle.std.proofs.Common.{◌≡◌, ℕ, ◌+◌, ◌<◌, List, [], ◌∷◌, ◌++◌, length, get_or, drop, set, sym, ap, ◌∙◌, subst, inl, inr, append_assoc, arith, length-set}
+use Rattle.std.proofs.lemmas.List.{get_or-set_same, get_or-set_other}
 use Rattle.std.proofs.lemmas.Bool.{cases_eq}
-use Rattle.extractors.specs.Rows.{Filed}
 
 -- what is filed of the codes before i, and what the rest of the recording has yet to give
 pub record Filing (m : ℕ) (part : ℕ → List ℕ → List ℕ) (x : List ℕ) (i : ℕ) (rows : List (List ℕ)) : Type 0 where
   pub keys : length rows ≡ m
   pub each : (s : ℕ) → s < m → part s x ≡ get_or rows s [] ++ part s (drop i x)
-
-pub file_first : (m : ℕ) (part : ℕ → List ℕ → List ℕ) (x : List ℕ) (rows : List (List ℕ)) → rows ≡ replicate m [] → Filing m part x 0 rows
-file_first m part x rows e = record {
-  keys = ap length e ∙ length-replicate m [];
-  each = λ s hs. ap (λ l. l ++ part s x) (sym (ap (λ r. get_or r s []) e ∙ get_or-replicate m s [] [] hs));
-}
 
 module _ (m : ℕ) (part : ℕ → List ℕ → List ℕ) (x : List ℕ) (i : ℕ) (rows : List (List ℕ)) (so_far : Filing m part x i rows) where
   -- the code at i gives v to part c, and nothing to any other
@@ -36,10 +29,3 @@ module _ (m : ℕ) (part : ℕ → List ℕ → List ℕ) (x : List ℕ) (i : �
   -- the code at i gives nothing
   pub file_none : ((s : ℕ) → part s (drop i x) ≡ part s (drop (i + 1) x)) → Filing m part x (i + 1) rows
   file_none none = record { keys = so_far.keys; each = λ s hs. so_far.each s hs ∙ ap (λ l. get_or rows s [] ++ l) (none s) }
-
-  -- the recording is read
-  pub file_all : length x ≤ i → ((s : ℕ) → part s [] ≡ []) → Filed m part x rows
-  file_all h none = record {
-    keys = so_far.keys;
-    each = λ s hs. sym (so_far.each s hs ∙ ap (λ l. get_or rows s [] ++ l) (ap (part s) (drop_all i x h) ∙ none s) ∙ append-nil (get_or rows s []));
-  }

@@ -1,30 +1,22 @@
 -- Nodes and levels as the loops meet them: the nodes of a level code by code, a level row by row, and the room that they take. Assumes nothing.
-use Rattle.std.proofs.Common.{◌≡◌, ℕ, zero, suc, ◌+◌, ◌-◌, ◌*◌, ◌/◌, ◌%◌, ◌^◌, ◌<◌, ◌≤◌, Bool, true, false, cond, eqb, ltb, List, [], ◌∷◌, ◌++◌, map, length, get_or, take, drop, set, filter, sym, refl, ap, ap₂, ◌∙◌, subst, mul-le-mul_right, suc-mul, arith, length-take, shl_exact, shr_lt}
+use Rattle.std.proofs.Common.{◌≡◌, ℕ, zero, suc, ◌+◌, ◌-◌, ◌*◌, ◌^◌, ◌<◌, ◌≤◌, Bool, true, false, cond, eqb, ltb, List, [], ◌∷◌, map, length, get_or, take, drop, filter, sym, refl, ap, ap₂, ◌∙◌, subst, mul-le-mul_right, suc-mul, arith, length-take, shr_lt}
 use borrow.Rule.Slice.PartMut.{put_mid}
 use Rattle.std.specs.List.{All, sum_by}
 use Rattle.std.proofs.ByRecursion.{All-get_or, All-map}
-use Rattle.std.proofs.lemmas.List.{drop_more, take_all, take_more}
+use Rattle.std.proofs.lemmas.List.{take_all, take_more}
 use Rattle.std.proofs.lemmas.List.Sums.{sum_by-append, sum_by-take-le}
 use Rattle.std.proofs.lemmas.List.Elements.{All-from_get_or}
-use Rattle.std.proofs.lemmas.Bool.{cond-true, cond-false, eq-eqb, ne_eqb}
 use Rattle.std.proofs.lemmas.Bool.Decides.{nat_tests}
 use Rattle.classes.specs.Recordings.{Codes, Recording}
 use Rattle.classes.proofs.Counts.{all_of}
 use Rattle.extractors.specs.Calls.{Written}
 use Rattle.extractors.specs.Bits.{gather}
-use Rattle.extractors.proofs.Filing.{Filing, file_one}
 use Rattle.extractors.specs.Rows.{Filed}
 use Rattle.extractors.proofs.Gathers.{gather_same}
 use Rattle.extractors.proofs.Writing.{join, yield_fits}
 use Rattle.split.specs.SplitRule.{prefix, next_bit, node, level}
 
 -- THE NODES OF ONE LEVEL, CODE BY CODE
-
-pub one_shifted : (d : ℕ) → d < 64 → (1 * 2 ^ d) % 2 ^ 64 ≡ 2 ^ d
-one_shifted d h =
-    let one : 1 < 2 ^ 1 = omega arith in
-    let fits : 1 + d ≤ 64 = omega arith in
-    omega (arith, shl_exact 1 d 64 one fits)
 
 -- a code in w bits has a prefix in d bits
 prefix_below : (w d c : ℕ) → d ≤ w → c < 2 ^ w → prefix w d c < 2 ^ d
@@ -34,24 +26,8 @@ module _ (w d : ℕ) (x : List ℕ) (i : ℕ) (h : i < length x) where
   abbrev code : ℕ
   code = get_or x i 0
 
-  node_here : node w d (prefix w d code) (drop i x) ≡ (code / 2 ^ (w - d - 1) % 2) ∷ node w d (prefix w d code) (drop (i + 1) x)
-  node_here =
-      let p = prefix w d code in
-      let k : w - suc d ≡ w - d - 1 = omega arith in
-      ap (node w d p) (drop_more x i 0 h) ∙ ap (map (next_bit w d)) (cond-true _ _ _ (eq-eqb p p refl)) ∙ ap (λ j. (code / 2 ^ j % 2) ∷ node w d p (drop (i + 1) x)) k
-
-  node_other : (p : ℕ) → (p ≡ prefix w d code → ⊥) → node w d p (drop i x) ≡ node w d p (drop (i + 1) x)
-  node_other p ne = ap (node w d p) (drop_more x i 0 h) ∙ ap (map (next_bit w d)) (cond-false _ _ _ (ne_eqb (prefix w d code) p (λ e. ne (sym e))))
-
   pub lead_below : d < w → Codes (2 ^ w) x → prefix w d code < 2 ^ d
   lead_below deep codes = prefix_below w d code (omega arith) (All-get_or (λ c. c < 2 ^ w) x i 0 h codes)
-
-  -- the next bit of the code at i is filed under its prefix
-  pub bit_filed : (nodes : List (List ℕ)) → Filing (2 ^ d) (node w d) x i nodes → d < w → Codes (2 ^ w) x → (p : ℕ) → p ≡ prefix w d code
-      → (nodes' : List (List ℕ)) → nodes' ≡ set nodes p (get_or nodes p [] ++ ((code / 2 ^ (w - d - 1) % 2) ∷ [])) → Filing (2 ^ d) (node w d) x (i + 1) nodes'
-  bit_filed nodes so_far deep codes p same nodes' is =
-      file_one (2 ^ d) (node w d) x i nodes so_far (prefix w d code) (code / 2 ^ (w - d - 1) % 2) (lead_below deep codes) node_here node_other nodes'
-      (is ∙ ap (λ q. set nodes q (get_or nodes q [] ++ ((code / 2 ^ (w - d - 1) % 2) ∷ []))) same)
 
 -- HOW MANY CODES THE NODES OF ONE LEVEL TAKE
 

@@ -1,18 +1,10 @@
 -- A turn files the code after a visit in the lane of the state visited.
-use Rattle.std.proofs.Common.{◌<◌, [], replicate, refl, ap, ◌∙◌, arith}
-use Rattle.std.proofs.ByRecursion.{All-get_or}
+use Rattle.std.proofs.Common.{◌∙◌}
 use Rattle.extractors.specs.Lanes.{lane}
-use Rattle.extractors.proofs.Filing.{file_first, file_none, file_all}
+use Rattle.extractors.proofs.Filing.{file_none}
 use Rattle.blum.proofs.Loops.{exit_filed, at_end}
 use Rattle.blum.proofs.layer.file_exits.Goals as goal
 use Rattle.blum.proofs.layer.file_exits.Goals.{in-Some+in_ok-file, in_default}
-
-pub file-requires : goal.file-requires
-file-requires c =
-    omega (arith, c.loop-i.invariant.keys, c.from-in-Some.ensures, All-get_or (λ b. b < c.args.size) c.args.recording.now c.loop-i.i 0 c.loop-i-test.true c.requires.0)
-
-pub loop-i-init : goal.loop-i-init
-loop-i-init c = file_first c.args.size lane c.args.recording.now c.in_ok-lanes.lanes (c.in_ok-lanes.ensures ∙ ap (λ k. replicate k []) c.from.ensures)
 
 pub loop-i-preserved : goal.loop-i-preserved
 loop-i-preserved c =
@@ -25,6 +17,3 @@ loop-i-preserved c =
           exit_filed c.args.size x i c.loop-i.lanes c.loop-i.invariant c.requires.0 _ _ next.0 w.from-in-Some.ensures (next.1 0) c.match-get.lanes filed
       | in_default w ↦ rw w.lanes-is (file_none c.args.size lane x i c.loop-i.lanes c.loop-i.invariant (λ s. at_end x s i c.loop-i-test.true w.in_default.ensures.lookup.3))
     ]
-
-pub returns : goal.returns
-returns c = file_all c.args.size lane c.args.recording.now c.loop-i.i c.loop-i.lanes c.loop-i.invariant c.loop-i-test.false (λ s. refl)

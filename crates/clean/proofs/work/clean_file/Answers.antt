@@ -10,9 +10,6 @@ use Rattle.clean.proofs.InOrder.{one_entry_more}
 use Rattle.clean.proofs.work.clean_file.Goals as goal
 use Rattle.clean.proofs.work.clean_file.Goals.{else-loop-number-test, then-loop-number-test+in_ok-clean_entry+else-number-number-end}
 
-pub loop-number-init : goal.loop-number-init
-loop-number-init c = (ap (λ f. f.now) c.in_ok-cleaning.ensures.0, c.in_ok-cleaning.ensures.1)
-
 pub clean_entry-requires : goal.clean_entry-requires
 clean_entry-requires c =
     let listed : c.loop-number.number ≤ entries (vec_items c.args.file.now.bytes) = omega (arith, c.entries-number-end.ensures.value) in
