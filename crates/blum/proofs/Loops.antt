@@ -1,6 +1,5 @@
 -- Lanes, kept exits and their bits as the loops of the layer meet them. Assumes nothing.
-use Rattle.std.proofs.Common.{◌≡◌, ℕ, ◌+◌, ◌-◌, ◌*◌, ◌<◌, ◌≤◌, Bool, cond, eqb, List, [], ◌∷◌, ◌++◌, length, get_or, drop, set, None, sym, refl, ap, ap₂, ◌∙◌, subst, mul-le-mul_left, mul-add, add-one, arith}
-use Rattle.std.proofs.ByRecursion.{All-get_or}
+use Rattle.std.proofs.Common.{◌≡◌, ℕ, ◌+◌, ◌-◌, ◌*◌, ◌<◌, ◌≤◌, Bool, cond, eqb, List, [], ◌∷◌, ◌++◌, length, get_or, drop, None, sym, refl, ap, ap₂, ◌∙◌, subst, mul-le-mul_left, mul-add, add-one, arith}
 use Rattle.std.proofs.lemmas.List.{drop_more, drop_all}
 use Rattle.std.proofs.lemmas.Bool.{eq-eqb, ne_eqb}
 use Rattle.classes.specs.Recordings.{Sized, Codes, Recording, width, final, last}
@@ -9,7 +8,6 @@ use Rattle.extractors.specs.Lanes.{lane_from, lane, init, kept, blum}
 use Rattle.extractors.specs.Bits.{gather}
 use Rattle.extractors.specs.Rows.{Filed}
 use Rattle.extractors.specs.Calls.{due, Written}
-use Rattle.extractors.proofs.Filing.{Filing, file_one}
 use Rattle.extractors.proofs.Judging.{unrefused}
 use Rattle.blum.specs.Totals.{total, total_zero, total_le, total_up}
 use Rattle.extractors.proofs.Gathers.{gather_next}
@@ -20,7 +18,7 @@ use Rattle.blum.specs.BlumEven.{kept_recording, blum_none}
 -- THE LANE OF A STATE, FROM THE CODE AT i ON
 
 module _ (x : List ℕ) (s i : ℕ) where
-  visit : i + 1 < length x → get_or x i 0 ≡ s → lane s (drop i x) ≡ get_or x (i + 1) 0 ∷ lane s (drop (i + 1) x)
+  pub visit : i + 1 < length x → get_or x i 0 ≡ s → lane s (drop i x) ≡ get_or x (i + 1) 0 ∷ lane s (drop (i + 1) x)
   visit h e =
       let p : i < length x = omega arith in
       ap (lane s) (drop_more x i 0 p) ∙ ap (lane_from s (get_or x i 0)) (drop_more x (i + 1) 0 h)
@@ -31,19 +29,11 @@ module _ (x : List ℕ) (s i : ℕ) where
   other_state a [] e = refl
   other_state a (b ∷ r) e = ap (λ t. led_if t b (lane_from s b r)) (ne_eqb a s e)
 
-  pass : i < length x → (get_or x i 0 ≡ s → ⊥) → lane s (drop i x) ≡ lane s (drop (i + 1) x)
+  pub pass : i < length x → (get_or x i 0 ≡ s → ⊥) → lane s (drop i x) ≡ lane s (drop (i + 1) x)
   pass h e = ap (lane s) (drop_more x i 0 h) ∙ other_state (get_or x i 0) (drop (i + 1) x) e
 
   pub at_end : i < length x → length x ≤ i + 1 → lane s (drop i x) ≡ lane s (drop (i + 1) x)
   at_end h e = ap (lane s) (drop_more x i 0 h) ∙ ap (lane_from s (get_or x i 0)) (drop_all (i + 1) x e) ∙ sym (ap (lane s) (drop_all (i + 1) x e))
-
--- the code v after a visit to c is filed
-pub exit_filed : (m : ℕ) (x : List ℕ) (i : ℕ) (lanes : List (List ℕ)) → Filing m lane x i lanes → Codes m x → (c v : ℕ) → i + 1 < length x → c ≡ get_or x i 0 → v ≡ get_or x (i + 1) 0
-    → (lanes' : List (List ℕ)) → lanes' ≡ set lanes c (get_or lanes c [] ++ (v ∷ [])) → Filing m lane x (i + 1) lanes'
-exit_filed m x i lanes so_far codes c v h at next lanes' is =
-    let here : c < m = omega (arith, All-get_or (λ b. b < m) x i 0 (omega arith) codes) in
-    let one : lane c (drop i x) ≡ v ∷ lane c (drop (i + 1) x) = visit x c i h (sym at) ∙ ap (λ b. b ∷ lane c (drop (i + 1) x)) (sym next) in
-    file_one m lane x i lanes so_far c v here one (λ s ne. pass x s i (omega arith) (λ e. ne (sym e ∙ sym at))) lanes' is
 
 -- THE KEPT EXITS
 
@@ -67,7 +57,7 @@ exits_kept m x lanes filed s k b row exits hs same at end is =
 unfoldable pub exits_below : ℕ → List ℕ → ℕ
 exits_below n x = total n (λ s. length (kept s x))
 
-lanes_fit : (m : ℕ) (x : List ℕ) → Codes m x → total m (λ s. length (lane s x)) ≤ length x
+pub lanes_fit : (m : ℕ) (x : List ℕ) → Codes m x → total m (λ s. length (lane s x)) ≤ length x
 lanes_fit m [] h = omega (arith, total_zero m)
 lanes_fit m (a ∷ y) h = omega (arith, lanes_length m a y h.0 h.1)
 
@@ -92,7 +82,7 @@ exits_next : (s : ℕ) (x : List ℕ) → exits_below (s + 1) x ≡ exits_below 
 unfolding exits_below
 exits_next s x = ap (λ k. total k (λ t. length (kept t x))) (add-one s)
 
-yield_next : (W s : ℕ) (x : List ℕ) (at k n : ℕ) → at ≤ W * exits_below s x → k ≤ W * n → n ≡ length (kept s x) → at + k ≤ W * exits_below (s + 1) x
+pub yield_next : (W s : ℕ) (x : List ℕ) (at k n : ℕ) → at ≤ W * exits_below s x → k ≤ W * n → n ≡ length (kept s x) → at + k ≤ W * exits_below (s + 1) x
 yield_next W s x at k n h l e =
     let t : exits_below (s + 1) x ≡ exits_below s x + n = exits_next s x ∙ ap (λ z. exits_below s x + z) (sym e) in
     omega (arith, ap (λ z. W * z) t, mul-add W (exits_below s x) n)

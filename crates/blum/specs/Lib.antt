@@ -5,3 +5,4 @@ pub mod Totals
 pub mod Lanes
 pub mod Walks
 pub mod Keeps
+pub mod Flat

@@ -1,39 +1,23 @@
 //! The Blum layer: the lanes of a recording go one by one to the extractor below.
-ghost use Rattle.std.specs.Prelude.{◌≡◌, ◌*◌, ◌≤◌, IfOk, length, if◌then◌else◌, nat_eq};
+ghost use Rattle.std.specs.Prelude.{◌≡◌, ◌*◌, ◌≤◌, length, if◌then◌else◌, nat_eq};
 ghost use Rattle.classes.specs.Recordings.{Recording, Sized, width as width_of};
-ghost use Rattle.extractors.specs.Lanes.{blum, init, lane};
+ghost use Rattle.extractors.specs.Lanes.{blum, init};
 ghost use Rattle.extractors.specs.Piles.{bits};
 ghost use Rattle.extractors.specs.Piles.Pile.{laned};
 ghost use Rattle.extractors.specs.Calls.{Filled};
-ghost use Rattle.extractors.specs.Rows.{Filed};
 ghost use Rattle.blum.specs.PileTheorems.{counts_even};
 
+use crate::lanes::file_exits;
 use extractors::fault::ExtractorFault;
 use extractors::interface::SymbolExtractor;
 use extractors::judge::width;
-use extractors::rows::Rows;
 use extractors::scratch::extract_by;
-use std::alloc::{AllocError, Global};
+use std::alloc::Global;
 
 /// Gives the extractor below the exits of each state in turn, states from 0 upward.
 #[derive(Drop)]
 pub struct Blum<E> {
     pub below: E,
-}
-
-/// Files the code after each visit under the state visited: the lane of each state.
-fn file_exits(heap: Global, size: u8, recording: &[u8]) -> Result<Rows, AllocError>
-    requires { Recording size recording.now }
-    ensures { IfOk result (Filed size lane recording.now) }
-{
-    let mut lanes = Rows::new(heap, usize::from(size))?;
-    // A loop over the codes with their index, which fills the lanes, is a rule of the project.
-    for (i, code) in recording.iter().enumerate() {
-        if let Some(next) = recording.get(i + 1) {
-            lanes.file(usize::from(*code), *next)?;
-        }
-    }
-    Ok(lanes)
 }
 
 /// The exits that are kept of a state's lane: all where the recording ends in the state, else all but the last.
@@ -65,10 +49,10 @@ impl<E: SymbolExtractor> Blum<E> {
             return Ok(0);
         };
         let w = width(size);
-        let lanes = file_exits(heap, size, recording)?;
+        let lanes = file_exits(heap, recording)?;
         let mut at = 0;
         for state in 0..size {
-            let exits = kept_exits(state, *last, lanes.row(usize::from(state)));
+            let exits = kept_exits(state, *last, lanes.lane(usize::from(state)));
             let part = &mut scratch[at..at + w * exits.len()];
             at += self.below.extract(heap, size, exits, part)?;
         }

@@ -13,7 +13,7 @@ use Rattle.clean.specs.Lines.{entry_line}
 use Rattle.clean.specs.Keys.{DealtOnto}
 use Rattle.clean.specs.Cleaning.{tray_room, EntryFedLine, EntryCleaned}
 
-shown_line : (bs : List ℕ) (n room : ℕ) (s s' : State) (gain : ℕ) (lean : ℤ) (e : Entry) (b : Body) (kind tower : ℕ)
+pub shown_line : (bs : List ℕ) (n room : ℕ) (s s' : State) (gain : ℕ) (lean : ℤ) (e : Entry) (b : Body) (kind tower : ℕ)
     → StepOf bs n room s (fed gain lean) s' → EntryNumbered bs n e → b ≡ body_in e → kind ≡ kind_letter (symbols_in e) → tower ≡ tower_letter b.tower
     → EntryFedLine bs n room s (entry_line n kind tower (length b.letters.now) gain lean) s'
 shown_line bs n room s s' gain lean e b kind tower step numbered is k t =

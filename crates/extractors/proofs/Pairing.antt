@@ -1,6 +1,6 @@
 -- The rule of pairs, as a loop over the pairs of a recording meets it. Assumes nothing.
 use Rattle.std.proofs.Common.{◌≡◌, ℕ, zero, suc, ◌+◌, ◌*◌, ◌/◌, ◌<◌, ◌≤◌, ◌≢◌, Bool, true, false, ltb, List, [], ◌∷◌, ◌++◌, length, get_or, take, drop, set, sym, refl, ap, ◌∙◌, append_assoc, append-nil, arith, eq-eqb, ne_eqb}
-use Rattle.std.proofs.lemmas.List.{length-take-le, take-append-drop, take_more_set, drop-set-lt, drop-drop, length-drop}
+use Rattle.std.proofs.lemmas.List.{drop_more, length-take-le, take-append-drop, take_more_set, drop-set-lt, drop-drop, length-drop}
 use Rattle.std.proofs.lemmas.Bool.{cond-true, cond-false}
 use Rattle.std.specs.Int.{from_bool}
 use Rattle.std.specs.Simd.{first_chunks}
@@ -9,9 +9,25 @@ use Rattle.extractors.specs.Bits.{byte, bytes}
 use Rattle.extractors.specs.Calls.{Written}
 use Rattle.extractors.proofs.Writing.{length_bytes}
 
+-- TWO CODES AT ANY PLACE
+
+pub two : (x : List ℕ) (i : ℕ) → i + 2 ≤ length x → drop i x ≡ get_or x i 0 ∷ (get_or x (i + 1) 0 ∷ drop (i + 2) x)
+two x i h =
+    let a : i < length x = omega arith in
+    let b : i + 1 < length x = omega arith in
+    let e : i + 1 + 1 ≡ i + 2 = omega arith in
+    drop_more x i 0 a ∙ ap (λ r. get_or x i 0 ∷ r) (drop_more x (i + 1) 0 b ∙ ap (λ j. get_or x (i + 1) 0 ∷ drop j x) e)
+
+module _ (x : List ℕ) (i : ℕ) (h : i + 2 ≤ length x) where
+  pub pairs_same : get_or x i 0 ≡ get_or x (i + 1) 0 → pairs (drop i x) ≡ pairs (drop (i + 2) x)
+  pairs_same e = ap pairs (two x i h) ∙ cond-true _ _ _ (eq-eqb (get_or x i 0) (get_or x (i + 1) 0) e)
+
+  pub pairs_other : (get_or x i 0 ≡ get_or x (i + 1) 0 → ⊥) → pairs (drop i x) ≡ ltb (get_or x (i + 1) 0) (get_or x i 0) ∷ pairs (drop (i + 2) x)
+  pairs_other e = ap pairs (two x i h) ∙ cond-false _ _ _ (ne_eqb (get_or x i 0) (get_or x (i + 1) 0) e)
+
 -- THE PAIRS OF A RECORDING
 
-chunk_at : (n k : ℕ) (x : List ℕ) (j : ℕ) → j < k → get_or (first_chunks n k x) j [] ≡ take n (drop (n * j) x)
+pub chunk_at : (n k : ℕ) (x : List ℕ) (j : ℕ) → j < k → get_or (first_chunks n k x) j [] ≡ take n (drop (n * j) x)
 chunk_at n zero x j h = absurd (omega arith)
 chunk_at n (suc k) x zero h = let e : n * 0 ≡ 0 = omega arith in ap (λ i. take n (drop i x)) (sym e)
 chunk_at n (suc k) x (suc j) h =
@@ -65,7 +81,7 @@ module _ (x before : List ℕ) (a b : ℕ) (rest : List ℕ) (k : ℕ) (out : Li
         behind = drop-set-lt (k + 1) out k v lt ∙ sym (drop-drop 1 k out) ∙ ap (drop 1) w.behind ∙ drop-drop 1 k before;
       }
 
-no_pairs : (rest : List ℕ) → length rest < 2 → pairs rest ≡ []
+pub no_pairs : (rest : List ℕ) → length rest < 2 → pairs rest ≡ []
 no_pairs [] h = refl
 no_pairs (a ∷ []) h = refl
 no_pairs (a ∷ (b ∷ rest)) h = absurd (omega arith)

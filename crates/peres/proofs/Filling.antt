@@ -1,5 +1,5 @@
 -- The scratch of a Peres layer: its parts have room beside each other, and what is written to them is what the layer gives. Assumes nothing.
-use Rattle.std.proofs.Common.{◌≡◌, ℕ, ◌+◌, ◌-◌, ◌≤◌, Bool, List, ◌++◌, length, take, drop, Ok, Err, vec_items, Result, sym, refl, ap, ◌∙◌, subst, append_assoc, arith}
+use Rattle.std.proofs.Common.{◌≡◌, ℕ, ◌+◌, ◌-◌, ◌≤◌, Bool, List, [], ◌++◌, length, take, drop, Ok, Err, vec_items, Result, sym, refl, ap, ◌∙◌, subst, append_assoc, arith, length-take, zero-add}
 use borrow.Rule.Slice.PartMut.{put_mid}
 use Rattle.classes.specs.Recordings.{Recording}
 use Rattle.classes.specs.Evenness.{Even}
@@ -23,6 +23,14 @@ filled_empty d f even x rec e out = subst (λ s. Written s out 0 out) (sym (pere
 pub filled_below : (f : List ℕ → List Bool) (x out : List ℕ) → Recording 2 x → length x ≤ length out → (r : Result ℕ ExtractorFault) (out' : List ℕ) → Extracted f 2 x out r out' → Filled (f x) out r out'
 filled_below f x out rec room (Ok n) out' e = e.1
 filled_below f x out rec room (Err fault) out' e = memory_only (due 2 x (length out)) fault (unrefused 2 x (length out) (omega arith, omega arith) rec (omega arith)) e.0
+
+-- it is lent the front of the scratch alone
+pub filled_front : (f : List ℕ → List Bool) (x out : List ℕ) → Recording 2 x → length x ≤ length out → (r : Result ℕ ExtractorFault) (part : List ℕ) → length part ≡ length (take (length x) out)
+    → Extracted f 2 x (take (length x) out) r part → Filled (f x) out r (part ++ drop (length x) out)
+filled_front f x out rec room (Ok n) part kept e =
+    let w = join [] (f x) out out part 0 n (length x) (refl, refl) (filled_below f x (take (length x) out) rec (omega (arith, length-take (length x) out)) (Ok n) part e) kept in
+    (sym (zero-add n) ∙ w.0, w.1)
+filled_front f x out rec room (Err fault) part kept e = filled_below f x (take (length x) out) rec (omega (arith, length-take (length x) out)) (Err fault) part e
 
 -- ONE STEP: the bits of pairs, then a bits of u, then b bits of v
 

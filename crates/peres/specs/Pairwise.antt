@@ -1,12 +1,12 @@
 -- The two lists of a recording's pairs: their lengths and codes, and how a loop over the recording meets them. Assumes nothing.
-use Rattle.std.specs.Prelude.{◌≡◌, ℕ, zero, suc, ◌+◌, ◌-◌, ◌*◌, ◌<◌, ◌≤◌, Bool, true, false, cond, not, List, [], ◌∷◌, ◌++◌, length, ◌==◌, ◌≢◌, nat_lt, slice_set, refl}
+use Rattle.std.specs.Prelude.{◌≡◌, ℕ, zero, suc, ◌+◌, ◌-◌, ◌*◌, ◌<◌, ◌≤◌, Bool, true, false, cond, not, List, [], ◌∷◌, ◌++◌, length, drop, ◌==◌, ◌≢◌, nat_lt, slice_index, slice_index_or, slice_set, refl}
 use Rattle.std.specs.Int.{from_bool}
 use Rattle.std.proofs.Common.{sym, ap, ◌∙◌, append_assoc, append-nil, arith, eq-eqb, ne_eqb}
 use Rattle.std.proofs.lemmas.Bool.{cond-true, cond-false}
 use Rattle.classes.specs.Recordings.{Codes, Recording}
 use Rattle.extractors.specs.Calls.{Written}
 use Rattle.extractors.specs.PairsRule.{pairs}
-use Rattle.extractors.proofs.Pairing.{Writing, write_same, write_other, write_all}
+use Rattle.extractors.proofs.Pairing.{two, Writing, write_same, write_other, write_all}
 use Rattle.peres.specs.PeresRule.{differ, common, peres}
 
 -- LENGTHS AND CODES
@@ -58,6 +58,16 @@ list_more all done rest done' y e d = e ∙ sym (append_assoc done (y ∷ []) re
 
 list_all : {X : Type 0} (all done rest : List X) → all ≡ done ++ rest → rest ≡ [] → done ≡ all
 list_all all done rest e r = sym (e ∙ ap (λ z. done ++ z) r ∙ append-nil done)
+
+module _ (x : List ℕ) (i : ℕ) (h : i + 2 ≤ length x) where
+  differ_more : differ (drop i x) ≡ cond (slice_index x i == slice_index x (i + 1)) 0 1 ∷ differ (drop (i + 2) x)
+  differ_more = ap differ (two x i h)
+
+  common_same : slice_index_or x i 0 ≡ slice_index x (i + 1) → common (drop i x) ≡ slice_index x (i + 1) ∷ common (drop (i + 2) x)
+  common_same e = ap common (two x i h) ∙ cond-true _ _ _ (eq-eqb (slice_index x i) (slice_index x (i + 1)) e) ∙ ap (λ a. a ∷ common (drop (i + 2) x)) e
+
+  common_other : (slice_index x i ≢ slice_index x (i + 1)) → common (drop i x) ≡ common (drop (i + 2) x)
+  common_other e = ap common (two x i h) ∙ cond-false _ _ _ (ne_eqb (slice_index x i) (slice_index x (i + 1)) e)
 
 no_pairs_left : (rest : List ℕ) → length rest < 2 → (differ rest ≡ []) × (common rest ≡ [])
 no_pairs_left [] h = (refl, refl)

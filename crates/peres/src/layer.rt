@@ -53,7 +53,8 @@ fn fill<E: CoinExtractor>(
         return Ok(0);
     }
     if depth == 0 {
-        return below.extract(heap, recording, out);
+        // The extractor below is lent as many bytes as it is given codes, so that it never goes over the rest.
+        return below.extract(heap, recording, &mut out[..recording.len()]);
     }
     let parts = take_apart(heap, recording, out)?;
     let next = depth - 1;

@@ -3,8 +3,8 @@ ghost use Rattle.std.specs.Prelude.{◌<◌};
 
 use std::alloc::{AllocError, Global};
 
-/// How often each of the codes 0, 1 and 2 stands in a block.
-pub(crate) type Counts = [usize; 3];
+/// How often each of the codes 0 to 3 stands in a block.
+pub(crate) type Counts = [u8; 4];
 
 /// The blocks of one length over the codes below a size.
 #[derive(Clone, Copy)]
@@ -44,7 +44,10 @@ impl Blocks {
     }
 }
 
-/// The counts of a block.
+/// The counts of a block of at most 255 codes.
 fn counts(block: &[u8]) -> Counts {
-    [0, 1, 2].map(|code| block.iter().filter(|other| **other == code).count())
+    [0, 1, 2, 3].map(|code| {
+        let found = block.iter().filter(|other| **other == code).count();
+        u8::try_from(found).unwrap_or(u8::MAX)
+    })
 }

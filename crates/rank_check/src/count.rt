@@ -7,9 +7,15 @@ use std::alloc::{AllocError, Global};
 /// More powers of two than the size of a class of eight codes has.
 const POWERS: u32 = 16;
 
-/// How many blocks have these counts.
+/// How many blocks have these counts; there are fewer than 2^32.
 fn alike(all: &[Counts], own: Counts) -> usize {
-    all.iter().filter(|counts| **counts == own).count()
+    // A loop over numbers of 32 bits, of which many are compared and added at once; `filter` and `count` go one by one.
+    let own = u32::from_le_bytes(own);
+    let mut found = 0u32;
+    for counts in all {
+        found = found.wrapping_add(u32::from(u32::from_le_bytes(*counts) == own));
+    }
+    found as usize
 }
 
 /// A position in `a` bits, highest first.

@@ -1,8 +1,10 @@
 -- Coins: the size of a class is a binomial, and a one in a block adds the binomial of the words with that one later. Assumes nothing.
-use Rattle.std.specs.Prelude.{◌≡◌, ℕ, zero, suc, ◌+◌, ◌^◌, ◌≤◌, Bool, true, false, ◌&&◌, List, [], ◌∷◌, length, ◌==◌, refl}
-use Rattle.std.proofs.Common.{sym, ◌∙◌, ap, zero-add, pow-suc, one-add, arith, pow_pos, pow_mono}
+use Rattle.std.specs.Prelude.{◌≡◌, ℕ, zero, suc, ◌+◌, ◌-◌, ◌^◌, ◌<◌, ◌≤◌, Bool, true, false, ◌&&◌, List, [], ◌∷◌, length, drop, ◌==◌, ◌≢◌, slice_index, slice_index_or, refl}
+use Rattle.std.proofs.Common.{sym, ◌∙◌, ap, ap₂, zero-add, pow-suc, one-add, arith, length-drop, pow_pos, pow_mono}
 use Rattle.std.proofs.Math.Bool.{and-false}
 use Rattle.std.proofs.Math.Dec.{eqb-suc-zero, eqb-suc-suc}
+use Rattle.std.proofs.ByRecursion.{All-drop, All-get_or}
+use Rattle.std.proofs.lemmas.List.{drop_more}
 use Rattle.classes.specs.Counting.{tally}
 use Rattle.classes.specs.Recordings.{Codes, count}
 use Rattle.classes.specs.Classes.{words}
@@ -92,3 +94,26 @@ coin_size_fits x h l = omega (arith, coin_size x h, choose_below (length x) (cou
 
 pub coin_rank_fits : (x : List ℕ) → Codes 2 x → length x ≤ 60 → rank 2 x ≤ 2 ^ 60
 coin_rank_fits x h l = omega (arith, rank_le_size 2 x, coin_size_fits x h l)
+
+-- the scan's turn at place i of a block s
+module _ (s : List ℕ) (i : ℕ) (h : i < length s) (codes : Codes 2 s) where
+  pub turn_one : slice_index_or s i 0 ≡ 1
+      → (count 1 (drop i s) ≡ suc (count 1 (drop (i + 1) s)))
+      × (rank 2 (drop i s) ≡ choose (length s - (i + 1)) (count 1 (drop i s)) + rank 2 (drop (i + 1) s))
+  turn_one e =
+      let d : drop i s ≡ 1 ∷ drop (i + 1) s = drop_more s i 0 h ∙ ap (λ c. c ∷ drop (i + 1) s) e in
+      let t : count 1 (drop i s) ≡ suc (count 1 (drop (i + 1) s)) = ap (count 1) d ∙ one-add _ in (
+        t,
+        ap (rank 2) d ∙ coin_rank_one (drop (i + 1) s) (All-drop (λ c. c < 2) (i + 1) s codes)
+            ∙ ap₂ (λ n k. choose n k + rank 2 (drop (i + 1) s)) (length-drop (i + 1) s) (sym t),
+      )
+
+  pub turn_zero : (slice_index s i ≢ 1) → (count 1 (drop i s) ≡ count 1 (drop (i + 1) s)) × (rank 2 (drop i s) ≡ rank 2 (drop (i + 1) s))
+  turn_zero ne =
+      let b : slice_index_or s i 0 < 2 = All-get_or (λ c. c < 2) s i 0 h codes in
+      let e : slice_index_or s i 0 ≡ 0 = other (slice_index s i) b ne in
+      let d : drop i s ≡ 0 ∷ drop (i + 1) s = drop_more s i 0 h ∙ ap (λ c. c ∷ drop (i + 1) s) e in
+      (ap (count 1) d ∙ zero-add _, ap (rank 2) d ∙ coin_rank_zero (drop (i + 1) s))
+    where
+      other : (c : ℕ) → c < 2 → (c ≢ 1) → c ≡ 0
+      other c l n = omega arith

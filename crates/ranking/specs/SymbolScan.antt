@@ -1,12 +1,15 @@
 -- The turn of the scan over symbols, from the last code to the first: the counts, the arrangements and the rank with one code
 -- more in front. Assumes nothing.
-use Rattle.std.specs.Prelude.{◌≡◌, ℕ, zero, suc, ◌+◌, ◌*◌, ◌/◌, ◌^◌, ◌<◌, ◌≤◌, Bool, true, false, cond, List, [], ◌∷◌, length, take, sum, ◌==◌, slice_index, slice_index_or, slice_set, refl}
-use Rattle.std.proofs.Common.{sym, ◌∙◌, ap, ap₂, subst, ⊎_elim, zero-add, mul_comm, mul-div_cancel, mul-le-mul_left, mul-le-mul_right, add-one, arith, get_or-set_same, get_or-set_other}
-use Rattle.std.proofs.lemmas.List.Sums.{sum_by_more}
+use Rattle.std.specs.Prelude.{◌≡◌, ℕ, zero, suc, ◌+◌, ◌-◌, ◌*◌, ◌/◌, ◌^◌, ◌<◌, ◌≤◌, Bool, true, false, cond, List, [], ◌∷◌, length, take, drop, set, sum, ◌==◌, nat_eq, slice_index, slice_index_or, slice_set, refl}
+use Rattle.std.proofs.Common.{sym, ◌∙◌, ap, ap₂, subst, ⊎_elim, zero-add, add_comm, mul_comm, mul-div_cancel, mul-le-mul_left, mul-le-mul_right, add-one, arith, length-drop, length-set, get_or-set_same, get_or-set_other}
+use Rattle.std.proofs.ByRecursion.{All-drop, All-get_or}
+use Rattle.std.proofs.lemmas.List.{drop_more}
+use Rattle.std.proofs.lemmas.List.Sums.{sum_by_more, sum_by-set}
 use Rattle.std.proofs.lemmas.Bool.{cases_lt, cases_eq, eq-eqb, ne_eqb}
 use Rattle.classes.specs.Counting.{one_if, tally}
 use Rattle.classes.specs.Recordings.{Codes, count}
 use Rattle.classes.specs.Classes.{words, same_counts}
+use Rattle.classes.proofs.Counts.{tally_le_length}
 use Rattle.ranking.specs.Factorials.{factorial, count_factorial, Multinomial}
 use Rattle.ranking.specs.Ranks.{before, rank, class_size}
 use Rattle.ranking.specs.Scans.{sum_below, sum_same, sum_mul, mul_sum, sum_mono, tally_same, size_tally, rank_le_size, same_step, begins, rank_step}
@@ -155,3 +158,54 @@ empty_rank m = at (same_counts m [] [])
     at : (b : Bool) → tally (λ y. before y []) (cond b ([] ∷ []) []) ≡ 0
     at true = refl
     at false = refl
+
+-- what a turn at place i - 1 of a block s finds and leaves
+pub record Turn (m : ℕ) (s : List ℕ) (i d : ℕ) (cs next : List ℕ) (size rest rk : ℕ) : Type 0 where
+  pub code : d < 16
+  pub own : slice_index_or cs d 0 + 1 ≤ 20
+  pub short : rest + 1 ≤ 20
+  pub product : size * (rest + 1) < 2 ^ 64
+  pub wide : length next ≡ 16
+  pub counts : (c : ℕ) → c < length next → slice_index next c ≡ count c (drop (i - 1) s)
+  pub sum_is : sum next ≡ rest + 1
+  pub rest_is : rest + 1 ≡ length (drop (i - 1) s)
+  pub size_is : size * (rest + 1) / (slice_index cs d + 1) ≡ class_size m (drop (i - 1) s)
+  pub smaller : size * (rest + 1) / (slice_index cs d + 1) * sum (take d next) < 2 ^ 64
+  pub rank_is : rk + size * (rest + 1) / (slice_index cs d + 1) * sum (take d next) / (rest + 1) ≡ rank m (drop (i - 1) s)
+  pub rank_fits : rank m (drop (i - 1) s) < 2 ^ 64
+
+pub turn : (m : ℕ) (s : List ℕ) (i : ℕ) (cs : List ℕ) (size rest rk : ℕ) → m ≤ 16 → length s ≤ 20 → Codes m s → 0 < i → i ≤ length s
+    → (length cs ≡ 16) × ((c : ℕ) → c < length cs → slice_index cs c ≡ count c (drop i s)) × (sum cs ≡ rest) × (rest ≡ length (drop i s)) × (size ≡ class_size m (drop i s)) × (rk ≡ rank m (drop i s))
+    → Turn m s i (slice_index s (i - 1)) cs (slice_set cs (slice_index s (i - 1)) (slice_index cs (slice_index s (i - 1)) + 1)) size rest rk
+turn m s i cs size rest rk few most codes lo hi inv =
+    let d = slice_index_or s (i - 1) 0 in
+    let x = drop i s in
+    let next = set cs d (slice_index cs d + 1) in
+    let at : i - 1 < length s = omega arith in
+    let b : d < m = All-get_or (λ c. c < m) s (i - 1) 0 at codes in
+    let tail : Codes m x = All-drop (λ c. c < m) i s codes in
+    let back : i - 1 + 1 ≡ i = omega arith in
+    let e : drop (i - 1) s ≡ d ∷ x = drop_more s (i - 1) 0 at ∙ ap (λ j. d ∷ drop j s) back in
+    let long : length x ≡ length s - i = length-drop i s in
+    let short : suc (length x) ≤ 20 = omega arith in
+    let inside : d < length cs = omega (arith, inv.0) in
+    let wide : length next ≡ 16 = length-set cs d (slice_index cs d + 1) ∙ inv.0 in
+    let here = inv.1 d inside in
+    let size_is = turn_size m d x cs size rest b tail few inv.0 short inv.1 inv.3 inv.4 in
+    let rank_is = turn_rank m d x cs size rest b tail few inv.0 short inv.1 inv.3 inv.4 wide in
+    record {
+      code = omega (arith, inv.0);
+      own = omega (arith, tally_le_length (λ b. nat_eq b d) x);
+      short = omega (arith, inv.3);
+      product = omega (arith, turn_size_fits m d x cs size rest b tail few inv.0 short inv.1 inv.3 inv.4);
+      wide = wide;
+      counts = λ c h. turn_counts m d x cs size rest b tail few inv.0 short inv.1 inv.3 inv.4 c (omega arith) ∙ ap (count c) (sym e);
+      sum_is = omega (arith, sum_by-set (λ (k : ℕ). k) cs d (slice_index cs d + 1) 0 inside, inv.2);
+      rest_is = omega (arith, inv.3, ap length e);
+      size_is = size_is ∙ ap (class_size m) (sym e);
+      smaller = subst (λ k. k * sum (take d next) < 2 ^ 64) (sym size_is) (turn_rank_fits m d x cs size rest b tail few inv.0 short inv.1 inv.3 inv.4 wide);
+      rank_is =
+          ap₂ (λ k r. r + k * sum (take d next) / (rest + 1)) size_is inv.5
+          ∙ add_comm (rank m x) (class_size m (d ∷ x) * sum (take d next) / (rest + 1)) ∙ rank_is ∙ ap (rank m) (sym e);
+      rank_fits = omega (arith, ap (rank m) e, turn_fits m d x cs size rest b tail few inv.0 short inv.1 inv.3 inv.4);
+    }

@@ -1,20 +1,23 @@
 -- Nodes and levels as the loops meet them: the nodes of a level code by code, a level row by row, and the room that they take. Assumes nothing.
-use Rattle.std.proofs.Common.{◌≡◌, ℕ, zero, suc, ◌+◌, ◌-◌, ◌*◌, ◌^◌, ◌<◌, ◌≤◌, Bool, true, false, cond, eqb, ltb, List, [], ◌∷◌, map, length, get_or, take, drop, filter, sym, refl, ap, ap₂, ◌∙◌, subst, mul-le-mul_right, suc-mul, arith, length-take, shr_lt}
+use Rattle.std.proofs.Common.{◌≡◌, ℕ, zero, suc, ◌+◌, ◌-◌, ◌*◌, ◌^◌, ◌<◌, ◌≤◌, Bool, true, false, cond, eqb, ltb, List, [], ◌∷◌, ◌++◌, append-nil, map, length, get_or, take, drop, filter, sym, refl, ap, ap₂, ◌∙◌, subst, mul-le-mul_right, suc-mul, arith, length-take, mul-zero, shr_lt}
 use borrow.Rule.Slice.PartMut.{put_mid}
 use Rattle.std.specs.List.{All, sum_by}
 use Rattle.std.proofs.ByRecursion.{All-get_or, All-map}
-use Rattle.std.proofs.lemmas.List.{take_all, take_more}
+use Rattle.std.proofs.lemmas.List.{take_all, take_more, nil_from_length}
 use Rattle.std.proofs.lemmas.List.Sums.{sum_by-append, sum_by-take-le}
 use Rattle.std.proofs.lemmas.List.Elements.{All-from_get_or}
 use Rattle.std.proofs.lemmas.Bool.Decides.{nat_tests}
-use Rattle.classes.specs.Recordings.{Codes, Recording}
+use Rattle.classes.specs.Recordings.{Codes, Recording, Sized, width}
+use Rattle.classes.specs.Evenness.{Even}
+use Rattle.classes.proofs.Yields.{yield_bound}
 use Rattle.classes.proofs.Counts.{all_of}
 use Rattle.extractors.specs.Calls.{Written}
 use Rattle.extractors.specs.Bits.{gather}
 use Rattle.extractors.specs.Rows.{Filed}
 use Rattle.extractors.proofs.Gathers.{gather_same}
 use Rattle.extractors.proofs.Writing.{join, yield_fits}
-use Rattle.split.specs.SplitRule.{prefix, next_bit, node, level}
+use Rattle.split.specs.SplitRule.{prefix, next_bit, node, level, split}
+use Rattle.split.specs.SplitEven.{split_even}
 
 -- THE NODES OF ONE LEVEL, CODE BY CODE
 
@@ -31,7 +34,7 @@ module _ (w d : ℕ) (x : List ℕ) (i : ℕ) (h : i < length x) where
 
 -- HOW MANY CODES THE NODES OF ONE LEVEL TAKE
 
-abbrev taken : ℕ → ℕ → ℕ → List ℕ → ℕ
+abbrev pub taken : ℕ → ℕ → ℕ → List ℕ → ℕ
 taken w d zero x = 0
 taken w d (suc n) x = taken w d n x + length (node w d n x)
 
@@ -58,7 +61,7 @@ taken_one w d (suc n) c x = at (prefix w d c) (taken_one w d n c x) (one_more (e
         let i : cond (ltb p n) 1 0 + cond (eqb p n) 1 0 ≡ cond (ltb p (suc n)) 1 0 = grind (arith, nat_tests) in
         omega arith
 
-taken_le : (w d n : ℕ) (x : List ℕ) → taken w d n x ≤ length x
+pub taken_le : (w d n : ℕ) (x : List ℕ) → taken w d n x ≤ length x
 taken_le w d n [] = omega (arith, taken_none w d n)
 taken_le w d n (c ∷ x) = omega (arith, taken_one w d n c x, taken_le w d n x, at_most (ltb (prefix w d c) n))
   where
@@ -67,7 +70,7 @@ taken_le w d n (c ∷ x) = omega (arith, taken_one w d n c x, taken_le w d n x, 
     at_most false = omega arith
 
 -- a node is a recording of coins
-node_recorded : (w d p : ℕ) (x : List ℕ) → length x ≤ 4096 → Recording 2 (node w d p x)
+pub node_recorded : (w d p : ℕ) (x : List ℕ) → length x ≤ 4096 → Recording 2 (node w d p x)
 node_recorded w d p x few =
     let own = filter (λ c. eqb (prefix w d c) p) x in (
       All-map (λ c. c < 2) (next_bit w d) own (all_of (λ c. next_bit w d c < 2) (λ c. omega arith) own),
@@ -123,3 +126,21 @@ part_fits s t part n₁ n₂ k w kept = omega (arith, yield_fits s (take (n₁ +
 -- the room of one level more, of w levels
 pub level_room : (d w n : ℕ) → d < w → w ≤ 4 → (d * n + n ≤ w * n) × (w * n ≤ 4 * n)
 level_room d w n h k = (subst (λ z. z ≤ w * n) (suc-mul d n) (mul-le-mul_right n h), mul-le-mul_right n k)
+
+-- no coins give no bits, and neither does a row without coins
+coins_none : (f : List ℕ → List Bool) → Even 2 f → (x : List ℕ) → Recording 2 x → length x ≡ 0 → f x ≡ []
+coins_none f even x rec e = nil_from_length (f x) (omega (arith, yield_bound 2 (omega arith, omega arith) f even x rec))
+
+pub none_more : (f : List ℕ → List Bool) → Even 2 f → (rows : List (List ℕ)) (p : ℕ) → Recording 2 (get_or rows p []) → length (get_or rows p []) ≡ 0
+    → gather (p + 1) (λ k. f (get_or rows k [])) ≡ gather p (λ k. f (get_or rows k []))
+none_more f even rows p rec e =
+    let g : ℕ → List Bool = λ k. f (get_or rows k []) in
+    let n : p + 1 ≡ suc p = omega arith in
+    ap (λ k. gather k g) n ∙ ap (λ z. gather p g ++ z) (coins_none f even (get_or rows p []) rec e) ∙ append-nil (gather p g)
+
+-- where there are no codes no bits are given
+pub filled_none : (m : ℕ) → Sized m → (f : List ℕ → List Bool) → Even 2 f → (x : List ℕ) → Recording m x → length x ≡ 0 → (out : List ℕ) → Written (split (width m) f x) out 0 out
+filled_none m sized f even x rec e out =
+    let few = yield_bound m sized (split (width m) f) (split_even m f sized even) x rec in
+    let none : length (split (width m) f x) ≡ 0 = omega (arith, few, ap (λ n. width m * n) e, mul-zero (width m)) in
+    subst (λ s. Written s out 0 out) (sym (nil_from_length (split (width m) f x) none)) (refl, refl)

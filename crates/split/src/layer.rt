@@ -53,6 +53,10 @@ impl<E: CoinExtractor> Split<E> {
         // An iterator on `Rows` would be a type more, with its laws, for this loop alone.
         for lead in 0..nodes.len() {
             let coins = nodes.row(lead);
+            // A node with no coins gives no bits.
+            if coins.is_empty() {
+                continue;
+            }
             let part = &mut out[at..at + coins.len()];
             at += self.below.extract(heap, coins, part)?;
         }
@@ -73,6 +77,10 @@ impl<E: CoinExtractor> Split<E> {
         requires room { width_of size * length codes.now ≤ length out.old }
         ensures { Filled (split (width_of size) (E.CoinExtractor.gives self.now.below) codes.now) out.old result out.new }
     {
+        // No memory is wanted where there are no codes.
+        if codes.is_empty() {
+            return Ok(0);
+        }
         let w = width(size);
         let mut at = 0;
         for d in 0..w {

@@ -2,7 +2,6 @@
 #![tactic(auto)]
 
 pub mod fault;
-mod key;
 mod queue;
 pub mod slip;
 pub mod store;

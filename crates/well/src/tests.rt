@@ -1,6 +1,5 @@
 //! Short runs of the well and its parts on figures worked out by hand.
 use crate::fault::WellFault;
-use crate::key::take_byte;
 use crate::queue::{Queue, ROOM};
 use crate::slip::{Returned, Slip};
 use crate::store::Well;
@@ -8,14 +7,15 @@ use crate::tray::Wipe;
 use extractors::fault::{ExtractorFault, Fault, Layer};
 use extractors::pairs::Pairs;
 use std::alloc::Global;
-use std::collections::VecDeque;
 use std::test::Fail;
 
 #[test]
 fn first_bit_is_highest(rt: HostRuntime) -> Result<(), Fail> {
-    let bits = [false, true, true, false, false, false, true, true];
-    let mut bits = VecDeque::from_array(rt.alloc(), bits)?;
-    assert_eq!(rt; take_byte(&mut bits), 0x63);
+    let mut queue = Queue::new(rt.alloc())?;
+    assert_eq!(rt; queue.len(), 0);
+    let _lean = queue.append(&[0, 1, 1, 0, 0, 0, 1, 1]);
+    assert!(rt; queue.len() == 8);
+    assert_eq!(rt; queue.take_byte(), 0x63);
     Ok(())
 }
 

@@ -1,7 +1,7 @@
 -- The parts of the scratch lie within it, and what stands in them at the end is what the depth gives.
 use Rattle.std.proofs.Common.{◌≡◌, ℕ, ◌-◌, length, vec_items, sym, refl, arith, length-drop, length-take, eqb-true}
 use Rattle.extractors.proofs.Writing.{length_put_mid}
-use Rattle.peres.proofs.Filling.{filled_empty, filled_below, before_first, before_second, behind_both, filled_step}
+use Rattle.peres.proofs.Filling.{filled_empty, filled_front, before_first, before_second, behind_both, filled_step}
 use Rattle.peres.proofs.layer.+fill.Goals as goal
 
 pub returns-then-is_empty : goal.returns-then-is_empty
@@ -11,7 +11,7 @@ returns-then-is_empty g t c =
 
 pub returns-then-depth-eq0 : goal.returns-then-depth-eq0
 returns-then-depth-eq0 g t c =
-    rw c.if-depth-eq0.true (filled_below (g.E.CoinExtractor.gives c.args.below.now) c.args.recording.now c.args.out.now c.requires.coins c.requires.room c.extract.result c.extract.new.tray c.extract.ensures)
+    rw c.if-depth-eq0.true (filled_front (g.E.CoinExtractor.gives c.args.below.now) c.args.recording.now c.args.out.now c.requires.coins c.requires.room c.extract.result c.extract.new.tray c.extract.auto.tray c.extract.ensures)
 
 pub slice_bounds-fill-count : goal.slice_bounds-fill-count
 slice_bounds-fill-count g t c =

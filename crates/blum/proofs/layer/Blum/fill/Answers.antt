@@ -11,12 +11,13 @@ use Rattle.extractors.proofs.Judging.{memory_only}
 use Rattle.extractors.proofs.Writing.{join, yield_fits}
 use Rattle.blum.specs.PileTheorems.{counts_even}
 use Rattle.blum.proofs.Loops.{exits_kept, room_next, exits_due, none_written, add_state}
+use Rattle.blum.specs.Flat.{most_states}
 use Rattle.blum.proofs.layer.Blum.fill.Given.{Over}
 use Rattle.blum.proofs.layer.Blum.fill.Goals as goal
 use Rattle.blum.proofs.layer.Blum.fill.Goals.{After-kept_exits-exits}
 
 are-kept : (g : Over) (c : After-kept_exits-exits g) → c.kept_exits-exits.result.now ≡ kept c.loop-state.state c.args.recording.now
-are-kept g c = exits_kept c.args.size c.args.recording.now c.in_ok-lanes.lanes c.in_ok-lanes.ensures c.loop-state.state c.from.result c.in-Some.last.now c.row.result.now _ c.loop-state-test.true c.from.ensures c.row.ensures (c.in-Some.ensures.item.3.1 0) c.kept_exits-exits.ensures
+are-kept g c = exits_kept most_states c.args.recording.now c.in_ok-lanes.lanes c.in_ok-lanes.ensures c.loop-state.state c.from.result c.in-Some.last.now c.lane.result.now _ (omega arith) c.from.ensures c.lane.ensures (c.in-Some.ensures.item.3.1 0) c.kept_exits-exits.ensures
 
 have-room : (g : Over) (c : After-kept_exits-exits g) → c.loop-state.at + c.width-w.result * length c.kept_exits-exits.result.now ≤ length c.args.scratch.now
 have-room g c =

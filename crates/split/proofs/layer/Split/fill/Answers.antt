@@ -1,11 +1,16 @@
 -- Each level has room for as many bits as the recording has codes, and its bits go behind those of the levels before.
-use Rattle.std.proofs.Common.{◌+◌, ◌-◌, ◌*◌, ◌≤◌, length, take, drop, ap, subst, arith, length-drop, length-take}
+use Rattle.std.proofs.Common.{◌≡◌, ◌+◌, ◌-◌, ◌*◌, ◌≤◌, length, take, drop, sym, ap, subst, arith, eqb-true, length-drop, length-take}
 use Rattle.extractors.specs.Calls.{Written}
 use Rattle.split.specs.SplitRule.{level}
-use Rattle.split.proofs.Noding.{nodes_fit, nodes_recorded, nodes_level, gathered, part_fits, level_room}
+use Rattle.split.proofs.Noding.{filled_none, nodes_fit, nodes_recorded, nodes_level, gathered, part_fits, level_room}
 use Rattle.split.proofs.layer.Split.fill.Given.{Over}
 use Rattle.split.proofs.layer.Split.fill.Goals as goal
 use Rattle.split.proofs.layer.Split.fill.Goals.{In_ok-nodes}
+
+pub returns-then-is_empty : goal.returns-then-is_empty
+returns-then-is_empty g c =
+    let none : length c.args.codes.now ≡ 0 = eqb-true (length c.args.codes.now) 0 (sym c.if-is_empty.ensures) in
+    filled_none c.args.size c.requires.sized (g.E.CoinExtractor.gives c.args.self.now.below) (g.met.E.CoinExtractor.even c.args.self.now.below) c.args.codes.now c.requires.recorded none c.args.out.now
 
 have-room : (g : Over) (c : In_ok-nodes g) → c.loop-d.at + length c.args.codes.now ≤ length c.args.out.now
 have-room g c =

@@ -1,11 +1,11 @@
 -- Each row has room in the part of its own length, and its bits go behind those of the rows before; the extractor below can only want memory.
-use Rattle.std.proofs.Common.{◌+◌, ◌-◌, ◌<◌, ◌≤◌, [], length, get_or, take, drop, sym, ap, subst, arith, length-drop, length-take}
+use Rattle.std.proofs.Common.{◌≡◌, ◌∙◌, eqb-true, ◌+◌, ◌-◌, ◌<◌, ◌≤◌, [], length, get_or, take, drop, sym, ap, subst, arith, length-drop, length-take}
 use Rattle.std.proofs.lemmas.Result.{err_from_is_err_and}
 use Rattle.std.proofs.lemmas.List.Elements.{All-get_or}
 use Rattle.classes.specs.Recordings.{Recording}
 use Rattle.extractors.specs.Calls.{Written}
 use Rattle.extractors.proofs.Judging.{unrefused, memory_only}
-use Rattle.split.proofs.Noding.{rows_more, row_room, gathered, part_fits}
+use Rattle.split.proofs.Noding.{none_more, rows_more, row_room, gathered, part_fits}
 use Rattle.split.proofs.layer.Split.fill_level.Given.{Over}
 use Rattle.split.proofs.layer.Split.fill_level.Goals as goal
 use Rattle.split.proofs.layer.Split.fill_level.Goals.{After-row-coins}
@@ -48,3 +48,13 @@ loop-lead-preserved g c =
       gathered (λ k. f (get_or rows k [])) p c.args.out.now c.loop-lead.out c.extract.new.tray at c.in_ok-at.field-0 q c.loop-lead.invariant.0 part c.extract.auto.tray,
       omega (arith, c.loop-lead.invariant.1, rows_more rows p there, ap length c.row-coins.ensures),
     )
+
+pub loop-lead-preserved-then-is_empty : goal.loop-lead-preserved-then-is_empty
+loop-lead-preserved-then-is_empty g c =
+    let rows = c.args.nodes.now in
+    let p = c.loop-lead.lead in
+    let there : p < length rows = omega (arith, c.len-lead-end.ensures) in
+    let none : length c.row-coins.result.now ≡ 0 = eqb-true (length c.row-coins.result.now) 0 (sym c.if-is_empty.ensures) in
+    let empty : length (get_or rows p []) ≡ 0 = sym (ap length c.row-coins.ensures) ∙ none in
+    let same = none_more (g.E.CoinExtractor.gives c.args.self.now.below) (g.met.E.CoinExtractor.even c.args.self.now.below) rows p (All-get_or (Recording 2) rows p [] there c.requires.coins) empty in
+    (subst (λ s. Written s c.args.out.now c.loop-lead.at c.loop-lead.out) (sym same) c.loop-lead.invariant.0, omega (arith, c.loop-lead.invariant.1, rows_more rows p there, empty))
